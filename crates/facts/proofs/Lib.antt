@@ -1,0 +1,4 @@
+-- Laws that only this crate's proofs need.
+pub mod Decided
+pub mod Bits
+pub mod Loops

@@ -1,0 +1,207 @@
+-- Laws of the loops over the standing bits of a map: one for each way in which a turn can go. What is left of the map is m, from variable v
+-- on; its lowest standing bit is z variables further, and `above` is left above it.
+use mathlib.Core.Path.{_≡_, refl, ap, ap₂, _∙_}
+use Prim.Native.Nat.{ℕ, zero, suc, _+_, _*_, _/_, _%_, _≤_, _<_}
+use native.Mathlib.Numerals.{add-one}
+use native.Mathlib.Omega.{arith}
+use mathlib.Core.Bool.{Bool, true, false, _&&_}
+use mathlib.Core.List.{List, [], _∷_, _++_, append-nil, append-assoc}
+use lib.Count.{ones, ones-step}
+use lib.Dec.{eqb}
+use lib.ListN.{length, getD, set, take, drop, drop-of-length-le, take-append-drop}
+use lib.Seq.{drop-cons, drop-drop, take-nil, take-add, take-suc-set, drop-set-lt, append-snoc, take-all}
+use borrow.Author.Tests.{eq-eqb, ne-eqb}
+use Rattle.facts.specs.Read.{Read, accepted, refused, _>>=_}
+use Rattle.facts.specs.Partial.{Partial, agrees, after, rest, above, holds, apply, empty, standingAt}
+use Rattle.facts.specs.Bits.{Lowest}
+use Rattle.facts.specs.PartialLaws.{holds-empty, apply-empty}
+use Rattle.facts.specs.Fields.{standing, nextOf, readValue, readValues}
+use Rattle.facts.specs.EachLaws.{next-each}
+use Rattle.facts.proofs.Bits.{skip}
+
+-- a map whose lowest bit does not stand, and one whose lowest bit stands
+even-bit : (m : ℕ) → (2 * m) % 2 ≡ 0
+even-bit m = omega arith
+
+even-half : (m : ℕ) → 2 * m / 2 ≡ m
+even-half m = omega arith
+
+odd-bit : (m : ℕ) → (2 * m + 1) % 2 ≡ 1
+odd-bit m = omega arith
+
+odd-half : (m : ℕ) → (2 * m + 1) / 2 ≡ m
+odd-half m = omega arith
+
+ones-even : (m : ℕ) → ones (2 * m) ≡ ones m
+ones-even m = ones-step (2 * m) ∙ ap₂ (λ (b h : ℕ). b + ones h) (even-bit m) (even-half m) ∙ omega arith
+
+ones-odd : (m : ℕ) → ones (2 * m + 1) ≡ suc (ones m)
+ones-odd m = ones-step (2 * m + 1) ∙ ap₂ (λ (b h : ℕ). b + ones h) (odd-bit m) (odd-half m) ∙ omega arith
+
+drop-one : (v : ℕ) (xs : List ℕ) → drop 1 (drop v xs) ≡ drop (suc v) xs
+drop-one v xs = drop-drop 1 v xs ∙ rw (add-one v)
+
+-- ---- past the values
+
+standing-even : (m : ℕ) (xs : List ℕ) → standing (2 * m) xs ≡ standing m (drop 1 xs)
+standing-even m [] = refl
+standing-even m (d ∷ xs) = rw (even-bit m, even-half m, standing)
+
+standing-odd : (m d : ℕ) (xs : List ℕ) → standing (2 * m + 1) (d ∷ xs) ≡ d ∷ standing m xs
+standing-odd m d xs = rw (odd-bit m, odd-half m, standing)
+
+module _ (sizes : List ℕ) (v : ℕ) {m z a : ℕ} (e : Lowest m z a) where
+  standing-skip : standing m (drop v sizes) ≡ standing (2 * a + 1) (drop (v + z) sizes)
+  standing-skip = rw (e .bits) (skip (λ m v. standing m (drop v sizes)) (λ m v. standing-even m (drop v sizes) ∙ rw (drop-one v sizes)) z (2 * a + 1) v)
+
+  pub standing-next : v + z < length sizes → standing m (drop v sizes) ≡ getD sizes (v + z) 0 ∷ standing a (drop (v + z + 1) sizes)
+  standing-next l = standing-skip ∙ rw (drop-cons sizes (v + z) 0 l, add-one (v + z)) (standing-odd a (getD sizes (v + z) 0) (drop (suc (v + z)) sizes))
+
+  pub standing-over : length sizes ≤ v + z → standing m (drop v sizes) ≡ []
+  standing-over l = standing-skip ∙ rw (drop-of-length-le sizes l)
+
+pub standing-none : (xs : List ℕ) → standing 0 xs ≡ []
+standing-none [] = refl
+standing-none (d ∷ xs) = standing-none xs
+
+-- what the loop that goes past the values is to answer from here
+abbrev pub Rest : List ℕ → List ℕ → ℕ → ℕ → ℕ → Read ℕ
+Rest f sizes m v at = nextOf (readValues f (standing m (drop v sizes)) at)
+
+module _ (f sizes : List ℕ) (v : ℕ) {m z a : ℕ} (e : Lowest m z a) (at : ℕ) where
+  values-turn : v + z < length sizes → Rest f sizes m v at ≡ _>>=_ (nextOf (readValue f (getD sizes (v + z) 0) at)) (λ at. Rest f sizes a (v + z + 1) at)
+  unfolding readValues
+  values-turn l = rw (standing-next sizes v e l) (next-each (readValue f) (getD sizes (v + z) 0) (standing a (drop (v + z + 1) sizes)) at)
+
+  pub values-next : {q : ℕ} → v + z < length sizes → accepted q ≡ nextOf (readValue f (getD sizes (v + z) 0) at) → Rest f sizes m v at ≡ Rest f sizes a (v + z + 1) q
+  values-next l h = values-turn l ∙ rw (← h)
+
+  pub values-refused : {n p : ℕ} → v + z < length sizes → refused n p ≡ nextOf (readValue f (getD sizes (v + z) 0) at) → Rest f sizes m v at ≡ refused n p
+  values-refused l h = values-turn l ∙ rw (← h)
+
+  pub values-over : length sizes ≤ v + z → Rest f sizes m v at ≡ accepted at
+  unfolding readValues
+  values-over l = rw (standing-over sizes v e l)
+
+pub values-done : (f sizes : List ℕ) (v at : ℕ) {m : ℕ} → m ≡ 0 → Rest f sizes m v at ≡ accepted at
+unfolding readValues
+values-done f sizes v at e = rw (e, standing-none (drop v sizes))
+
+-- ---- a partial state in a state
+
+module _ (f : List ℕ) (m at : ℕ) where
+  above-even : above (standingAt f (2 * m) at) ≡ standingAt f m at
+  unfolding standingAt
+  above-even = rw (even-bit m, even-half m, ones-even m)
+
+  above-odd : at < length f → above (standingAt f (2 * m + 1) at) ≡ standingAt f m (at + 1)
+  unfolding standingAt
+  above-odd l = rw (odd-bit m, odd-half m, ones-odd m, add-one at, drop-cons f at 0 l)
+
+  -- the first variable
+  abbrev Agrees : ℕ → ℕ → Bool
+  Agrees map x = agrees (standingAt f map at .map % 2) (standingAt f map at .values) x
+
+  abbrev After : ℕ → ℕ → ℕ
+  After map x = after (standingAt f map at .map % 2) (standingAt f map at .values) x
+
+  agrees-even : (x : ℕ) → Agrees (2 * m) x ≡ true
+  unfolding standingAt
+  agrees-even x = rw (even-bit m)
+
+  agrees-odd : at < length f → (x : ℕ) → Agrees (2 * m + 1) x ≡ eqb (getD f at 0) x
+  unfolding standingAt
+  agrees-odd l x = rw (odd-bit m, ones-odd m, drop-cons f at 0 l)
+
+  agrees-cut : length f ≤ at → (x : ℕ) → Agrees (2 * m + 1) x ≡ false
+  unfolding standingAt
+  agrees-cut l x = rw (odd-bit m, drop-of-length-le f l, take-nil (ones (2 * m + 1)))
+
+  after-even : (x : ℕ) → After (2 * m) x ≡ x
+  unfolding standingAt
+  after-even x = rw (even-bit m)
+
+  after-odd : at < length f → (x : ℕ) → After (2 * m + 1) x ≡ getD f at 0
+  unfolding standingAt
+  after-odd l x = rw (odd-bit m, ones-odd m, drop-cons f at 0 l)
+
+  holds-even : (xs : List ℕ) → holds (standingAt f (2 * m) at) xs ≡ holds (standingAt f m at) (drop 1 xs)
+  holds-even [] = refl
+  holds-even (x ∷ xs) = ap₂ _&&_ (agrees-even x) (ap (λ (p : Partial). holds p xs) above-even)
+
+  holds-odd : at < length f → (x : ℕ) (xs : List ℕ) → holds (standingAt f (2 * m + 1) at) (x ∷ xs) ≡ (eqb (getD f at 0) x && holds (standingAt f m (at + 1)) xs)
+  holds-odd l x xs = ap₂ _&&_ (agrees-odd l x) (ap (λ (p : Partial). holds p xs) (above-odd l))
+
+  holds-cut : length f ≤ at → (x : ℕ) (xs : List ℕ) → holds (standingAt f (2 * m + 1) at) (x ∷ xs) ≡ false
+  holds-cut l x xs = ap (λ (b : Bool). b && holds (above (standingAt f (2 * m + 1) at)) xs) (agrees-cut l x)
+
+  apply-even : (xs : List ℕ) → apply (standingAt f (2 * m) at) xs ≡ take 1 xs ++ apply (standingAt f m at) (drop 1 xs)
+  apply-even [] = refl
+  apply-even (x ∷ xs) = ap₂ (λ (y : ℕ) (ys : List ℕ). y ∷ ys) (after-even x) (ap (λ (p : Partial). apply p xs) above-even)
+
+  apply-odd : at < length f → (x : ℕ) (xs : List ℕ) → apply (standingAt f (2 * m + 1) at) (x ∷ xs) ≡ getD f at 0 ∷ apply (standingAt f m (at + 1)) xs
+  apply-odd l x xs = ap₂ (λ (y : ℕ) (ys : List ℕ). y ∷ ys) (after-odd l x) (ap (λ (p : Partial). apply p xs) (above-odd l))
+
+no-bytes : (m : ℕ) (xs : List ℕ) → apply (record { map = m; values = [] }) xs ≡ xs
+no-bytes m [] = refl
+no-bytes m (x ∷ xs) = ap₂ (λ (y : ℕ) (ys : List ℕ). y ∷ ys) (one (m % 2)) (rw (none (m % 2)) (no-bytes (m / 2) xs))
+  where
+    one : (b : ℕ) → after b [] x ≡ x
+    one zero = refl
+    one (suc b) = refl
+
+    none : (b : ℕ) → rest b [] ≡ []
+    none zero = refl
+    none (suc b) = refl
+
+apply-cut : (f : List ℕ) (m at : ℕ) (xs : List ℕ) → length f ≤ at → apply (standingAt f m at) xs ≡ xs
+unfolding standingAt
+apply-cut f m at xs l = rw (drop-of-length-le f l, take-nil (ones m)) (no-bytes m xs)
+
+no-bits : (f : List ℕ) (at : ℕ) → standingAt f 0 at ≡ empty
+unfolding standingAt ones
+no-bits f at = refl
+
+pub holds-done : (f : List ℕ) (at : ℕ) (xs : List ℕ) {m : ℕ} → m ≡ 0 → holds (standingAt f m at) xs ≡ true
+holds-done f at xs e = rw (e, no-bits f at) (holds-empty xs)
+
+pub apply-done : (f : List ℕ) (at v : ℕ) (s : List ℕ) {m : ℕ} → m ≡ 0 → take v s ++ apply (standingAt f m at) (drop v s) ≡ s
+apply-done f at v s e = rw (e, no-bits f at, apply-empty (drop v s)) (take-append-drop v s)
+
+module _ (f s : List ℕ) (v : ℕ) {m z a : ℕ} (e : Lowest m z a) (at : ℕ) where
+  holds-skip : holds (standingAt f m at) (drop v s) ≡ holds (standingAt f (2 * a + 1) at) (drop (v + z) s)
+  holds-skip = rw (e .bits) (skip (λ m v. holds (standingAt f m at) (drop v s)) (λ m v. holds-even f m at (drop v s) ∙ rw (drop-one v s)) z (2 * a + 1) v)
+
+  pub holds-over : length s ≤ v + z → holds (standingAt f m at) (drop v s) ≡ true
+  holds-over l = holds-skip ∙ rw (drop-of-length-le s l)
+
+  pub holds-short : v + z < length s → length f ≤ at → holds (standingAt f m at) (drop v s) ≡ false
+  holds-short l h = holds-skip ∙ rw (drop-cons s (v + z) 0 l) (holds-cut f a at h (getD s (v + z) 0) (drop (suc (v + z)) s))
+
+  holds-turn : v + z < length s → at < length f → holds (standingAt f m at) (drop v s) ≡ (eqb (getD f at 0) (getD s (v + z) 0) && holds (standingAt f a (at + 1)) (drop (v + z + 1) s))
+  holds-turn l h = holds-skip ∙ rw (drop-cons s (v + z) 0 l, add-one (v + z)) (holds-odd f a at h (getD s (v + z) 0) (drop (suc (v + z)) s))
+
+  pub holds-not : v + z < length s → at < length f → (getD f at 0 ≡ getD s (v + z) 0 → ⊥) → holds (standingAt f m at) (drop v s) ≡ false
+  holds-not l h n = holds-turn l h ∙ rw (ne-eqb (getD f at 0) (getD s (v + z) 0) n)
+
+  pub holds-next : v + z < length s → at < length f → getD f at 0 ≡ getD s (v + z) 0 → holds (standingAt f m at) (drop v s) ≡ holds (standingAt f a (at + 1)) (drop (v + z + 1) s)
+  holds-next l h n = holds-turn l h ∙ rw (eq-eqb (getD f at 0) (getD s (v + z) 0) n)
+
+  apply-skip : take v s ++ apply (standingAt f m at) (drop v s) ≡ take (v + z) s ++ apply (standingAt f (2 * a + 1) at) (drop (v + z) s)
+  apply-skip = rw (e .bits) (skip (λ m v. take v s ++ apply (standingAt f m at) (drop v s)) one z (2 * a + 1) v)
+    where
+      one : (m v : ℕ) → take v s ++ apply (standingAt f (2 * m) at) (drop v s) ≡ take (suc v) s ++ apply (standingAt f m at) (drop (suc v) s)
+      one m v = rw (apply-even f m at (drop v s), ← append-assoc (take v s) (take 1 (drop v s)), ← take-add v 1 s, add-one v, drop-one v s)
+
+  pub apply-over : length s ≤ v + z → take v s ++ apply (standingAt f m at) (drop v s) ≡ s
+  apply-over l = apply-skip ∙ rw (drop-of-length-le s l, take-all (v + z) s l, append-nil)
+
+  pub apply-short : length f ≤ at → take v s ++ apply (standingAt f m at) (drop v s) ≡ s
+  apply-short h = rw (apply-cut f m at (drop v s) h) (take-append-drop v s)
+
+  pub apply-next : v + z < length s → at < length f
+      → take v s ++ apply (standingAt f m at) (drop v s)
+      ≡ take (v + z + 1) (set s (v + z) (getD f at 0)) ++ apply (standingAt f a (at + 1)) (drop (v + z + 1) (set s (v + z) (getD f at 0)))
+  apply-next l h =
+      apply-skip
+      ∙ rw (drop-cons s (v + z) 0 l, apply-odd f a at h (getD s (v + z) 0) (drop (suc (v + z)) s), add-one (v + z), take-suc-set s (v + z) (getD f at 0) l, drop-set-lt (suc (v + z)) s (v + z) (getD f at 0) (omega arith), append-snoc)

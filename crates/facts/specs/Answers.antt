@@ -1,0 +1,32 @@
+-- What the answers of the code mean: the value, or the document's number and place of the refusal.
+use Prim.Native.Nat.{ℕ}
+use Rattle.facts.specs.declared.Field.{Field}
+use Rattle.facts.specs.declared.Field.the-variants.{Value, Refused as NoValue}
+use Rattle.facts.specs.declared.Past.{Past}
+use Rattle.facts.specs.declared.Past.the-variants.{Next, Refused as NotPast}
+use Rattle.facts.specs.declared.Checked.{Checked}
+use Rattle.facts.specs.declared.Checked.the-variants.{Accepted, Refused as NotAccepted}
+use Rattle.facts.specs.declared.Headed.{Headed}
+use Rattle.facts.specs.declared.Headed.the-variants.{Head, Refused as NoHead}
+use Rattle.facts.specs.Refusal.{number, place}
+use Rattle.facts.specs.Read.{Read, accepted, refused}
+
+-- a number that was read
+abbrev pub fieldAnswer : Field → Read ℕ
+fieldAnswer (Value n) = accepted n
+fieldAnswer (NoValue why) = refused (number why) (place why)
+
+-- the offset of the next field
+abbrev pub pastAnswer : Past → Read ℕ
+pastAnswer (Next at) = accepted at
+pastAnswer (NotPast why) = refused (number why) (place why)
+
+-- nothing but yes
+abbrev pub checkedAnswer : Checked → Read (Unit {0})
+checkedAnswer Accepted = accepted tt
+checkedAnswer (NotAccepted why) = refused (number why) (place why)
+
+-- the number of variables, and the offset of the field after the goal
+abbrev pub headedAnswer : Headed → Read (ℕ × ℕ)
+headedAnswer (Head n at) = accepted (n, at)
+headedAnswer (NoHead why) = refused (number why) (place why)

@@ -1,0 +1,59 @@
+-- Laws of what is written at the front of a buffer, and straight after that.
+use mathlib.Core.Path.{_≡_, refl, sym, ap, _∙_}
+use mathlib.Core.List.{List, [], _++_, append-nil, append-assoc}
+use Prim.Native.Nat.{ℕ, _+_, _-_, _≤_, _<_}
+use native.Mathlib.Omega.{arith}
+use lib.ListN.{length, take, drop, length-append, length-drop, drop-of-length-le}
+use lib.Seq.{take-all, take-at, drop-at, drop-drop, take-length}
+use borrow.Author.Tests.{le-leb, lt-leb}
+use borrow.Rule.Slice.PartMut.{putMid}
+use Rattle.facts.specs.Write.{over, fitting, Wrote}
+
+pub fitting-all : (bytes out : List ℕ) → length bytes ≤ length out → fitting bytes out ≡ bytes
+unfolding fitting
+fitting-all bytes out h = rw (le-leb (length bytes) (length out) h, fitting)
+
+pub fitting-none : (bytes out : List ℕ) → length out < length bytes → fitting bytes out ≡ []
+unfolding fitting
+fitting-none bytes out h = rw (lt-leb (length bytes) (length out) h, fitting)
+
+-- nothing was written
+pub wrote-none : (bytes out : List ℕ) → length out < length bytes → Wrote (fitting bytes out) out out 0
+unfolding over
+wrote-none bytes out h = rw (fitting-none bytes out h) (record { count = refl; buffer = refl })
+
+pub wrote-all : {bytes before now : List ℕ} {n : ℕ} → length bytes ≤ length before → Wrote bytes before now n → Wrote (fitting bytes before) before now n
+wrote-all {bytes} {before} h w = rw (fitting-all bytes before h) w
+
+-- the part of a buffer from an index to its end
+tail-whole : (at : ℕ) (l : List ℕ) → take (length l - at) (drop at l) ≡ drop at l
+tail-whole at l = take-all (length l - at) (drop at l) (simp length-drop (omega arith))
+
+length-over : (bytes out : List ℕ) → length bytes ≤ length out → length (over bytes out) ≡ length out
+unfolding over
+length-over bytes out h = simp (length-append, length-drop) (omega arith)
+
+-- a copy of all of a slice
+pub wrote-copy : (bytes out : List ℕ) {now : List ℕ} {n : ℕ} → n ≡ length bytes → now ≡ take (length bytes) bytes ++ drop (length bytes) out → Wrote bytes out now n
+unfolding over
+wrote-copy bytes out e h = record { count = e; buffer = h ∙ rw (take-length bytes) }
+
+-- what is written after what is written: the rest of the buffer is lent, and comes back
+module _ {bytes before now : List ℕ} {at : ℕ} (w : Wrote bytes before now at) where
+  -- the next index is within the buffer, and past it is room for k bytes more
+  pub wrote-inside : length bytes ≤ length before → at ≤ length now
+  wrote-inside h = rw (w .count, w .buffer, length-over bytes before h) h
+
+  pub wrote-room : {k : ℕ} → length bytes + k ≤ length before → k ≤ length (take (length now - at) (drop at now))
+  wrote-room h = rw (tail-whole at now, length-drop at now, w .count, w .buffer, length-over bytes before (omega arith)) (omega arith)
+
+  over-then : (more : List ℕ) {last : List ℕ} → last ≡ over more (take (length now - at) (drop at now)) → putMid at (length now - at) now last ≡ over (bytes ++ more) before
+  unfolding over
+  over-then more {last} e =
+      let d : drop at now ≡ drop (length bytes) before = ap (drop at) (w .buffer) ∙ drop-at bytes _ at (sym (w .count)) in
+      let t : take at now ≡ bytes = ap (take at) (w .buffer) ∙ take-at bytes _ at (sym (w .count)) in
+      let z : drop (length now - at) (drop at now) ≡ [] = drop-of-length-le (drop at now) {i = length now - at} (simp length-drop (omega arith)) in
+      rw (z, t, e, tail-whole at now, d, append-nil, drop-drop (length more) (length bytes) before, length-append, append-assoc)
+
+  pub wrote-then : {more last : List ℕ} {n : ℕ} → Wrote more (take (length now - at) (drop at now)) last n → Wrote (bytes ++ more) before (putMid at (length now - at) now last) (at + n)
+  wrote-then {more} v = record { count = rw (w .count, v .count, length-append bytes more); buffer = over-then more (v .buffer) }

@@ -1,0 +1,101 @@
+// What task files and probe files share, the lowest layer: refusals, numbers and partial states in place, and states.
+pub mod head;
+pub mod number;
+pub mod partial;
+pub mod state;
+pub mod write;
+
+ghost use mathlib.Core.Path.{_≡_};
+ghost use Rattle.facts.specs.Refusal.{number, place};
+
+// Why an input is turned down, each with its place (document 01, "Turned down").
+pub enum Refusal {
+    // 1: the file ends before or inside a field
+    Ends(usize),
+    // 2: bytes after the last field
+    Trailing(usize),
+    // 3: a count or a domain size outside its range, or too many nodes
+    Range(usize),
+    // 4: a value outside its domain; a relaxed set that is empty or has a stray bit
+    Outside(usize),
+    // 5: a map bit for no variable
+    Stray(usize),
+    // 6: a node's variable or target against the rules
+    Diagram(usize),
+    // 7: the output buffer is shorter than the result; the place is the length needed
+    Short(usize),
+    // 8: a list over its limit
+    Long(usize),
+    // 9: a step does not apply
+    Blocked(usize),
+    // 10: the goal is not met at the end
+    Unmet(usize),
+    // 11: no such action or step
+    Missing(usize),
+    // 12: the state's length is not the variable count
+    Width(usize),
+}
+
+// The number that document 01 gives to a refusal.
+pub fn refusal_number(why: Refusal) -> u8
+    ensures { λ r. ⌜ r ≡ number why ⌝ }
+{
+    match why {
+        Refusal::Ends(_) => 1,
+        Refusal::Trailing(_) => 2,
+        Refusal::Range(_) => 3,
+        Refusal::Outside(_) => 4,
+        Refusal::Stray(_) => 5,
+        Refusal::Diagram(_) => 6,
+        Refusal::Short(_) => 7,
+        Refusal::Long(_) => 8,
+        Refusal::Blocked(_) => 9,
+        Refusal::Unmet(_) => 10,
+        Refusal::Missing(_) => 11,
+        Refusal::Width(_) => 12,
+    }
+}
+
+// The place of a refusal.
+pub fn refusal_place(why: Refusal) -> usize
+    ensures { λ r. ⌜ r ≡ place why ⌝ }
+{
+    match why {
+        Refusal::Ends(p) => p,
+        Refusal::Trailing(p) => p,
+        Refusal::Range(p) => p,
+        Refusal::Outside(p) => p,
+        Refusal::Stray(p) => p,
+        Refusal::Diagram(p) => p,
+        Refusal::Short(p) => p,
+        Refusal::Long(p) => p,
+        Refusal::Blocked(p) => p,
+        Refusal::Unmet(p) => p,
+        Refusal::Missing(p) => p,
+        Refusal::Width(p) => p,
+    }
+}
+
+// A number that was read.
+pub enum Field {
+    Value(u64),
+    Refused(Refusal),
+}
+
+// Where the next field starts.
+pub enum Past {
+    Next(usize),
+    Refused(Refusal),
+}
+
+// Whether an input is accepted.
+pub enum Checked {
+    Accepted,
+    Refused(Refusal),
+}
+
+// The head of a file: the number of its variables, and where the field after the goal starts.
+pub enum Headed {
+    Head(usize, usize),
+    Refused(Refusal),
+}

@@ -1,0 +1,196 @@
+// Partial states in place: document 01's part states, as they stand in a file.
+use crate::Field;
+use crate::Past;
+use crate::Refusal;
+use crate::number::read_map;
+ghost use mathlib.Core.Path.{_≡_};
+ghost use Prim.Native.Nat.{_+_, _%_, _^_, _≤_, _<_};
+ghost use lib.Count.{ones};
+ghost use lib.Dec.{leb};
+ghost use lib.ListN.{length};
+ghost use Rattle.facts.specs.Answers.{pastAnswer};
+ghost use Rattle.facts.specs.Bits.{Lowest};
+ghost use Rattle.facts.specs.Partial.{holds, apply, valuePlace, standingAt, partialAt};
+ghost use Rattle.facts.specs.Fields.{nextOf, standing, readValue, readValues, readPartial};
+
+// The length in bytes of a partial state with this map: "The count of standing bits is the count of value bytes."
+pub fn partial_length(map: u64) -> usize
+    ensures { λ r. ⌜ r ≡ 8 + ones map ⌝ }
+{
+    8 + (u64::count_ones(map) as usize)
+}
+
+// How far past the map's first byte the value byte of a variable lies whose bit stands in the map.
+pub fn value_place(map: u64, variable: usize) -> usize
+    ensures { λ r. ⌜ r ≡ valuePlace map variable ⌝ }
+{
+    partial_length(lower_bits(map, variable))
+}
+
+// The bits of a map below a variable's.
+fn lower_bits(map: u64, variable: usize) -> u64
+    ensures { λ r. ⌜ r ≡ map % 2 ^ variable ⌝ }
+{
+    if 64 <= variable {
+        return map;
+    }
+    map % (1 << variable)
+}
+
+// Past the partial state at an offset, checked against the domain sizes of the variables.
+pub fn partial_end(file: &[u8], at: usize, sizes: &[u8]) -> Past
+    ensures { λ r. ⌜ pastAnswer r ≡ nextOf (readPartial (now (file .entry)) (now (sizes .entry)) at) ⌝ }
+{
+    match read_map(file, at) {
+        Field::Refused(why) => Past::Refused(why),
+        Field::Value(map) => {
+            if stray(map, sizes.len()) {
+                return Past::Refused(Refusal::Stray(at));
+            }
+            match values_end(file, at + 8, map, sizes) {
+                Past::Refused(why) => Past::Refused(why),
+                Past::Next(_) => Past::Next(at + partial_length(map)),
+            }
+        }
+    }
+}
+
+// Whether a map has a bit for no variable, of n.
+fn stray(map: u64, n: usize) -> bool
+    ensures { λ r. ⌜ r ≡ leb (2 ^ n) map ⌝ }
+{
+    if 64 <= n {
+        return false;
+    }
+    if map >> n == 0 {
+        return false;
+    }
+    true
+}
+
+// The lowest standing bit of a map: how many bits lie below it, and the bits above it.
+struct Bit {
+    zeros: usize,
+    above: u64,
+}
+
+fn lowest_bit(map: u64) -> Bit
+    requires { ⌜ 0 < map ⌝ }
+    ensures { λ r. ⌜ Lowest map (r .zeros) (r .above) × (r .zeros ≤ 64) ⌝ }
+{
+    let zeros = u64::trailing_zeros(map);
+    Bit {
+        zeros: zeros as usize,
+        above: (map >> zeros) / 2,
+    }
+}
+
+// Past the value of a variable that has size values.
+pub fn value_end(file: &[u8], at: usize, size: u8) -> Past
+    ensures { λ r. ⌜ pastAnswer r ≡ nextOf (readValue (now (file .entry)) size at) ⌝ }
+{
+    if file.len() <= at {
+        return Past::Refused(Refusal::Ends(at));
+    }
+    if file[at] < size {
+        Past::Next(at + 1)
+    } else {
+        Past::Refused(Refusal::Outside(at))
+    }
+}
+
+// Past the values for the standing bits of a map, from one standing bit to the next.
+fn values_end(file: &[u8], from: usize, map: u64, sizes: &[u8]) -> Past
+    ensures { λ r. ⌜ pastAnswer r ≡ nextOf (readValues (now (file .entry)) (standing map (now (sizes .entry))) from) ⌝ }
+{
+    let mut at = from;
+    let mut rest = map;
+    let mut v: usize = 0;
+    while rest != 0 {
+        let bit = lowest_bit(rest);
+        v += bit.zeros;
+        if sizes.len() <= v {
+            return Past::Next(at);
+        }
+        match value_end(file, at, sizes[v]) {
+            Past::Next(next) => {
+                at = next;
+            }
+            Past::Refused(why) => {
+                return Past::Refused(why);
+            }
+        }
+        rest = bit.above;
+        v += 1;
+    }
+    Past::Next(at)
+}
+
+// Whether the partial state at an offset holds in a state.
+pub fn holds_at(file: &[u8], at: usize, state: &[u8]) -> bool
+    ensures { λ r. ⌜ r ≡ holds (partialAt (now (file .entry)) at) (now (state .entry)) ⌝ }
+{
+    match read_map(file, at) {
+        Field::Refused(_) => true,
+        Field::Value(map) => values_hold(file, at + 8, map, state),
+    }
+}
+
+// Whether the values from an offset on, for the standing bits of a map, are those of a state.
+fn values_hold(file: &[u8], from: usize, map: u64, state: &[u8]) -> bool
+    ensures { λ r. ⌜ r ≡ holds (standingAt (now (file .entry)) map from) (now (state .entry)) ⌝ }
+{
+    let mut at = from;
+    let mut rest = map;
+    let mut v: usize = 0;
+    while rest != 0 {
+        let bit = lowest_bit(rest);
+        v += bit.zeros;
+        if state.len() <= v {
+            return true;
+        }
+        if file.len() <= at {
+            return false;
+        }
+        if file[at] != state[v] {
+            return false;
+        }
+        rest = bit.above;
+        v += 1;
+        at += 1;
+    }
+    true
+}
+
+// Sets the facts of the partial state at an offset in a state.
+pub fn apply_at(file: &[u8], at: usize, state: &mut [u8])
+    ensures { λ r. ⌜ now (state .exit) ≡ apply (partialAt (now (file .entry)) at) (now (state .entry)) ⌝ }
+{
+    match read_map(file, at) {
+        Field::Refused(_) => {}
+        Field::Value(map) => values_set(file, at + 8, map, state),
+    }
+}
+
+// Sets the values from an offset on, for the standing bits of a map, in a state.
+fn values_set(file: &[u8], from: usize, map: u64, state: &mut [u8])
+    ensures { λ r. ⌜ now (state .exit) ≡ apply (standingAt (now (file .entry)) map from) (now (state .entry)) ⌝ }
+{
+    let mut at = from;
+    let mut rest = map;
+    let mut v: usize = 0;
+    while rest != 0 {
+        let bit = lowest_bit(rest);
+        v += bit.zeros;
+        if state.len() <= v {
+            return;
+        }
+        if file.len() <= at {
+            return;
+        }
+        state[v] = file[at];
+        rest = bit.above;
+        v += 1;
+        at += 1;
+    }
+}

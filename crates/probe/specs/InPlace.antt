@@ -1,0 +1,48 @@
+-- Steps in place: what code does that goes over the bytes of an accepted file, without reading it into values.
+use mathlib.Core.Path.{_≡_}
+use Prim.Native.Nat.{ℕ, _+_, _≤_, _<_}
+use mathlib.Core.List.{List}
+use lib.ListN.{length, getD}
+use Rattle.facts.specs.Read.{Read, accepted, refused, withValue}
+use Rattle.facts.specs.Lists.{At}
+use Rattle.facts.specs.Partial.{partialBytes, partialAt}
+use Rattle.facts.specs.Fields.{nextOf, readNumber}
+use Rattle.facts.specs.Run.{Move}
+use Rattle.probe.specs.Probe.{Step, Probe, perform}
+use Rattle.probe.specs.ProbeFile.{readStep, readSteps, readProbe}
+
+-- how many variables and how many steps the file has
+unfoldable pub probeAt : List ℕ → Read (ℕ × ℕ)
+probeAt f = withValue (λ p. (length (p .sizes), length (p .steps))) (readProbe f)
+
+-- the two bytes at an offset, 0 where the file ends before
+unfoldable pub costAt : List ℕ → ℕ → ℕ
+costAt f at = elim (readNumber f 2 at) [ accepted n ↦ n | refused n p ↦ 0 ]
+
+-- where the effect and the cost of the step at an offset begin
+unfoldable pub effectPlace : List ℕ → ℕ → ℕ
+effectPlace f at = at + partialBytes (partialAt f at)
+
+-- the step at an offset, as its bytes stand
+unfoldable pub stepAt : List ℕ → ℕ → Step
+stepAt f at = record {
+  pre = partialAt f at;
+  eff = partialAt f (effectPlace f at);
+  cost = costAt f (effectPlace f (effectPlace f at));
+}
+
+-- what step number r does in the state s, where `offsets` has the offset of each step
+unfoldable pub moveAt : List ℕ → List ℕ → ℕ → List ℕ → Move
+moveAt f offsets r s = perform (stepAt f (getD offsets r 0)) s
+
+-- each offset is one of the file
+abbrev pub Within : List ℕ → List ℕ → Type 0
+Within f offsets = (k : ℕ) → k < length offsets → getD offsets k 0 ≤ length f
+
+-- `offsets` has, where each of the count steps from an offset on is accepted, the offset of each
+pub record Marked (f sizes : List ℕ) (count from : ℕ) (offsets : List ℕ) : Type 0 where
+  pub marks : {end : ℕ} → nextOf (readSteps f sizes count from) ≡ accepted end → (j : ℕ) → j < count → nextOf (readSteps f sizes j from) ≡ accepted (getD offsets j 0)
+
+-- `offsets` has the offset of each step of an accepted file
+pub record Located (f offsets : List ℕ) : Type 0 where
+  pub lies : (p : Probe) → readProbe f ≡ accepted p → (r : ℕ) (st : Step) → At (p .steps) r st → (next : ℕ) × (readStep f (p .sizes) (getD offsets r 0) ≡ accepted (st, next))

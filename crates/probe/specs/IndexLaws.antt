@@ -1,0 +1,230 @@
+-- Laws of the pass that checks a probe file and notes where its steps start, and of a run by those offsets.
+use mathlib.Core.Path.{_≡_, sym, ap, ap₂, _∙_, subst, subst₂}
+use Prim.Native.Nat.{ℕ, _+_, _*_, _≤_, _<_}
+use native.Mathlib.Omega.{arith}
+use mathlib.Core.List.{List, [], _++_, append-nil}
+use lib.ListN.{length, getD, take, drop}
+use lib.Seq.{getD-take, length-take-le, take-length, drop-length}
+use borrow.Author.Tests.{le-leb, lt-leb}
+use Rattle.facts.specs.Read.{accepted, refused, _>>=_}
+use Rattle.facts.specs.ReadLaws.{made, not-made, value-of, next-of}
+use Rattle.facts.specs.Lists.{upFrom, At}
+use Rattle.facts.specs.ListLaws.{length-upFrom, at-getD, at-length}
+use Rattle.facts.specs.Partial.{partialAt}
+use Rattle.facts.specs.Run.{next, runFrom}
+use Rattle.facts.specs.RunLaws.{run-same, list-long, list-fits}
+use Rattle.facts.specs.Fields.{nextOf, valueOf, Head, readHead, headAt, readEnd}
+use Rattle.facts.specs.EachLaws.{each-length, each-at}
+use Rattle.facts.specs.PartialReadLaws.{partial-read}
+use Rattle.facts.specs.HeadLaws.{Head-read, head-read}
+use Rattle.probe.specs.Probe.{Step, Probe, maxSteps, maxList, perform, stepMove, probeSum}
+use Rattle.probe.specs.ProbeFile.{readStep, readStepCount, readSteps, readProbe, checkProbe, runProbe}
+use Rattle.probe.specs.ProbeLaws.{probe-lines, count-most, move-at}
+use Rattle.probe.specs.InPlace.{probeAt, stepAt, moveAt, Within, Marked, Located}
+use Rattle.probe.specs.InPlaceLaws.{step-read}
+
+module _ (f : List ℕ) where
+  -- what is refused has no steps to be found
+  pub located-none : {n p : ℕ} (offsets : List ℕ) → probeAt f ≡ refused n p → Located f offsets
+  unfolding probeAt
+  located-none offsets h = record { lies = λ p r k st a. absurd (let e = not-made (λ (p : Probe). (length (p .sizes), length (p .steps))) (readProbe f) h in let z : _≡_ {A = ℕ} 0 1 = cc in omega arith) }
+
+  -- the check alone
+  pub check-refused : {n p : ℕ} → probeAt f ≡ refused n p → checkProbe f ≡ refused n p
+  unfolding probeAt checkProbe
+  check-refused h = rw (not-made (λ (p : Probe). (length (p .sizes), length (p .steps))) (readProbe f) h)
+
+  pub check-accepted : {n k : ℕ} → probeAt f ≡ accepted (n, k) → checkProbe f ≡ accepted tt
+  unfolding probeAt checkProbe
+  check-accepted h = rw (made (λ (p : Probe). (length (p .sizes), length (p .steps))) (readProbe f) h .answer)
+
+  -- ---- the ways in which a file can go
+
+  pub probe-no-head : {n p : ℕ} → headAt f 57 66 ≡ refused n p → probeAt f ≡ refused n p
+  unfolding probeAt readProbe headAt
+  probe-no-head h = rw (not-made (λ (p : Head × ℕ). (length (p .0 .sizes), p .1)) (readHead f 57 66) h)
+
+  module _ {n at : ℕ} (h : headAt f 57 66 ≡ accepted (n, at)) where
+    pub record Headed : Type 0 where
+      pub head : Head
+      pub head-is : readHead f 57 66 ≡ accepted (head, at)
+      pub count : length (head .sizes) ≡ n
+
+    pub headed : Headed
+    unfolding headAt
+    headed =
+        let m = made (λ (p : Head × ℕ). (length (p .0 .sizes), p .1)) (readHead f 57 66) h in
+        record {
+          head = m .from .0;
+          head-is = m .answer ∙ ap (λ (e : ℕ). accepted (m .from .0, e)) (ap (λ (p : ℕ × ℕ). p .1) (m .value));
+          count = ap (λ (p : ℕ × ℕ). p .0) (m .value);
+        }
+
+    abbrev head : Head
+    head = headed .head
+
+    read : Head-read f 57 66 head at
+    read = head-read f 57 66 (headed .head-is)
+
+    -- the variables' domain sizes and initial values lie in the file
+    pub head-fits : (n ≤ 57) × (1 + 2 * n ≤ at) × (at ≤ length f)
+    head-fits =
+        let g = partial-read f (head .sizes) (1 + 2 * length (head .sizes)) (read .goal) in
+        (omega (arith, headed .count, read .wf .variables), omega (arith, headed .count, g .next), g .fits)
+
+    pub probe-no-count : {k p : ℕ} → valueOf (readStepCount f at) ≡ refused k p → probeAt f ≡ refused k p
+    unfolding probeAt readProbe
+    probe-no-count g = rw (headed .head-is, not-made (λ (p : ℕ × ℕ). p .0) (readStepCount f at) g)
+
+    module _ {count : ℕ} (g : valueOf (readStepCount f at) ≡ accepted count) where
+      count-is : readStepCount f at ≡ accepted (count, at + 2)
+      count-is =
+          let m = made (λ (p : ℕ × ℕ). p .0) (readStepCount f at) g in
+          m .answer ∙ ap₂ (λ (c e : ℕ). accepted (c, e)) (m .value) (count-most f at (m .answer) .1)
+
+      pub count-fits : (count ≤ maxSteps) × (at + 2 ≤ length f)
+      count-fits = let m = count-most f at count-is in (m .0, m .2)
+
+      module _ {k : ℕ} (same : k ≡ n) where
+        -- the domain sizes as they stand
+        abbrev sizes : List ℕ
+        sizes = take k (drop 1 f)
+
+        sizes-are : head .sizes ≡ sizes
+        sizes-are = read .sizes ∙ ap (λ (j : ℕ). take j (drop 1 f)) (headed .count ∙ sym same)
+
+        pub probe-no-steps : {m p : ℕ} → nextOf (readSteps f sizes count (at + 2)) ≡ refused m p → probeAt f ≡ refused m p
+        unfolding probeAt readProbe
+        probe-no-steps s = rw (headed .head-is, count-is, sizes-are, not-made (λ (p : List Step × ℕ). p .1) (readSteps f sizes count (at + 2)) s)
+
+        module _ {end : ℕ} (s : nextOf (readSteps f sizes count (at + 2)) ≡ accepted end) where
+          abbrev steps : List Step
+          steps = made (λ (p : List Step × ℕ). p .1) (readSteps f sizes count (at + 2)) s .from .0
+
+          steps-are : readSteps f sizes count (at + 2) ≡ accepted (steps, end)
+          steps-are = let m = made (λ (p : List Step × ℕ). p .1) (readSteps f sizes count (at + 2)) s in m .answer ∙ ap (λ (e : ℕ). accepted (steps, e)) (m .value)
+
+          steps-count : length steps ≡ count
+          unfolding readSteps
+          steps-count = sym (each-length (λ (r : ℕ). readStep f sizes) (upFrom 0 count) (at + 2) steps-are) ∙ length-upFrom 0 count
+
+          pub probe-trailing : end < length f → probeAt f ≡ refused 2 end
+          unfolding probeAt readProbe readEnd
+          probe-trailing l = rw (headed .head-is, count-is, sizes-are, steps-are, lt-leb (length f) end l)
+
+          pub probe-good : length f ≤ end → probeAt f ≡ accepted (n, count)
+          unfolding probeAt readProbe readEnd
+          probe-good l = rw (headed .head-is, count-is, sizes-are, steps-are, le-leb (length f) end l) (ap₂ (λ (i j : ℕ). accepted (i, j)) (ap length (sym sizes-are) ∙ headed .count) steps-count)
+
+          -- the offsets that were noted are those of the steps
+          pub located : (offsets : List ℕ) → Marked f sizes count (at + 2) offsets → Located f offsets
+          unfolding readSteps
+          located offsets m = record {
+            lies = λ p r k st a.
+                let l = probe-lines f r in
+                let head-same : l .head ≡ head = value-of (sym (l .head-is) ∙ headed .head-is) in
+                let at-same : l .at₁ ≡ at = next-of (sym (l .head-is) ∙ headed .head-is) in
+                let c : readStepCount f at ≡ accepted (l .count, l .at₂) = ap (readStepCount f) (sym at-same) ∙ l .count-is in
+                let count-same : l .count ≡ count = value-of (sym c ∙ count-is) in
+                let next-same : l .at₂ ≡ at + 2 = next-of (sym c ∙ count-is) in
+                let sizes-same : p .sizes ≡ sizes = sym (l .sizes) ∙ ap (λ (h : Head). h .sizes) head-same ∙ sizes-are in
+                let all : readSteps f sizes count (at + 2) ≡ accepted (p .steps, l .at₃) =
+                subst₂ (λ (i j : ℕ). readSteps f sizes i j ≡ accepted (p .steps, l .at₃)) count-same next-same (subst (λ (ds : List ℕ). readSteps f ds (l .count) (l .at₂) ≡ accepted (p .steps, l .at₃)) (l .sizes ∙ sizes-same) (l .steps-are)) in
+                let few : k < count = omega (arith, at-length a, each-length (λ (r : ℕ). readStep f sizes) (upFrom 0 count) (at + 2) all, length-upFrom 0 count) in
+                let o = each-at (λ (r : ℕ). readStep f sizes) 0 count (at + 2) all a (m .marks s k few) in
+                (o .0, ap (λ (ds : List ℕ). readStep f ds (getD offsets k 0)) sizes-same ∙ o .1);
+          }
+
+-- ---- a run by the offsets
+
+module _ (f offsets : List ℕ) {p : Probe} (r : readProbe f ≡ accepted p) (loc : Located f offsets) where
+  abbrev count : ℕ
+  count = length (p .steps)
+
+  pub at-step : (k : ℕ) → k < count → (st : Step) × (At (p .steps) k st) × (stepAt f (getD offsets k 0) ≡ st) × (getD offsets k 0 ≤ length f)
+  at-step k l =
+      let none : Step = record { pre = record { map = 0; values = [] }; eff = record { map = 0; values = [] }; cost = 0 } in
+      let a = at-getD (p .steps) k none l in
+      let o = loc .lies p r k (getD (p .steps) k none) a in
+      let s = step-read f (p .sizes) (getD offsets k 0) (o .1) in
+      (getD (p .steps) k none, a, s .same, s .fits)
+
+  -- the state, the goal and the moves are those of the probe that was read
+  pub run-in-place : (list init : List ℕ) (goal : ℕ) → count ≤ length offsets → init ≡ p .init → partialAt f goal ≡ p .goal
+      → runFrom (length (take count offsets)) (moveAt f (take count offsets)) (partialAt f goal) 0 0 list init ≡ probeSum p list
+  unfolding probeSum moveAt
+  run-in-place list init goal few i g =
+      let len : length (take count offsets) ≡ count = length-take-le count offsets few in
+      rw (len, i, g)
+      (run-same count (λ k s. perform (stepAt f (getD (take count offsets) k 0)) s) (stepMove (p .steps)) (p .goal) (λ s. Unit {0})
+      (λ k s l u.
+      let o = at-step k l in
+      rw (getD-take count offsets k 0 l, o .2) (sym (move-at (p .steps) s (o .1))))
+      (λ k s e c l u h. tt) list (p .init) 0 0 tt)
+
+-- ---- the run of a file
+
+pub run-refused : (f list : List ℕ) {n p : ℕ} → probeAt f ≡ refused n p → runProbe f list ≡ refused n p
+unfolding probeAt runProbe
+run-refused f list h = rw (not-made (λ (p : Probe). (length (p .sizes), length (p .steps))) (readProbe f) h)
+
+module _ (f : List ℕ) {n k : ℕ} (h : probeAt f ≡ accepted (n, k)) where
+  pub record Accepted : Type 0 where
+    pub probe : Probe
+    pub reads : readProbe f ≡ accepted probe
+    pub variables : length (probe .sizes) ≡ n
+    pub steps : length (probe .steps) ≡ k
+
+  pub accepted-probe : Accepted
+  unfolding probeAt
+  accepted-probe =
+      let m = made (λ (p : Probe). (length (p .sizes), length (p .steps))) (readProbe f) h in
+      record { probe = m .from; reads = m .answer; variables = ap (λ (p : ℕ × ℕ). p .0) (m .value); steps = ap (λ (p : ℕ × ℕ). p .1) (m .value) }
+
+  abbrev p : Probe
+  p = accepted-probe .probe
+
+  -- what the head says, and where the initial values and the goal stand
+  pub record Starts : Type 0 where
+    pub variables : n ≤ 57
+    pub fits : 1 + 2 * n ≤ length f
+    pub steps : k ≤ maxSteps
+    pub init : take n (drop (1 + n) f) ≡ p .init
+    pub goal : partialAt f (1 + 2 * n) ≡ p .goal
+
+  pub starts : Starts
+  unfolding readSteps
+  starts =
+      let l = probe-lines f (accepted-probe .reads) in
+      let r = head-read f 57 66 (l .head-is) in
+      let count : length (l .head .sizes) ≡ n = ap length (l .sizes) ∙ accepted-probe .variables in
+      let g = partial-read f (l .head .sizes) (1 + 2 * length (l .head .sizes)) (r .goal) in
+      record {
+        variables = omega (arith, r .wf .variables);
+        fits = omega (arith, g .next, g .fits);
+        steps = omega (arith, accepted-probe .steps, each-length (λ (r : ℕ). readStep f (l .head .sizes)) (upFrom 0 (l .count)) (l .at₂) (l .steps-are), length-upFrom 0 (l .count), count-most f (l .at₁) (l .count-is) .0);
+        init = ap (λ (n : ℕ). take n (drop (1 + n) f)) (sym count) ∙ sym (r .init) ∙ l .init;
+        goal = ap (λ (n : ℕ). partialAt f (1 + 2 * n)) (sym count) ∙ sym (g .same) ∙ l .goal;
+      }
+
+  pub run-long : (list : List ℕ) → maxList < length list → runProbe f list ≡ refused 8 maxList
+  unfolding runProbe
+  run-long list l = rw (accepted-probe .reads, list-long maxList list l)
+
+  module _ (offsets : List ℕ) (loc : Located f offsets) (few : k ≤ length offsets) where
+    pub run-within : Within f (take k offsets)
+    run-within i l =
+        let m : i < k = omega (arith, length-take-le k offsets few) in
+        rw (getD-take k offsets i 0 m) (at-step f offsets (accepted-probe .reads) loc i (omega (arith, accepted-probe .steps)) .3)
+
+    pub run-fits : (list : List ℕ) → length list ≤ maxList
+        → runProbe f list ≡ runFrom (length (take k offsets)) (moveAt f (take k offsets)) (partialAt f (1 + 2 * n)) 0 0 list (take n (drop (1 + n) f))
+    unfolding runProbe
+    run-fits list l =
+        rw (accepted-probe .reads, list-fits maxList list l)
+        (sym (run-in-place f offsets (accepted-probe .reads) loc list (take n (drop (1 + n) f)) (1 + 2 * n) (omega (arith, accepted-probe .steps)) (starts .init) (starts .goal))
+        ∙ ap (λ (j : ℕ). runFrom (length (take j offsets)) (moveAt f (take j offsets)) (partialAt f (1 + 2 * n)) 0 0 list (take n (drop (1 + n) f))) (accepted-probe .steps))
+
+-- a slice copied over one of the same length
+pub copied : (src dst : List ℕ) {last : List ℕ} → length src ≡ length dst → last ≡ take (length src) src ++ drop (length src) dst → last ≡ src
+copied src dst e h = h ∙ rw (take-length src, e, drop-length dst, append-nil)

@@ -1,0 +1,9 @@
+-- Definitions.
+pub mod Probe
+pub mod ProbeFile
+pub mod Answers
+pub mod InPlace
+-- Laws.
+pub mod ProbeLaws
+pub mod InPlaceLaws
+pub mod IndexLaws

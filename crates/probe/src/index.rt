@@ -1,0 +1,103 @@
+// The one pass over a probe file that checks it and notes where each step starts.
+use crate::Indexed;
+use crate::Probe;
+use facts::Field;
+use facts::Headed;
+use facts::Past;
+use facts::Refusal;
+ghost use mathlib.Core.Path.{_≡_};
+ghost use Prim.Native.Nat.{_≤_};
+ghost use lib.ListN.{length};
+ghost use Rattle.facts.specs.Read.{accepted};
+ghost use Rattle.facts.specs.Answers.{fieldAnswer, pastAnswer};
+ghost use Rattle.facts.specs.Fields.{nextOf, valueOf, headAt};
+ghost use Rattle.probe.specs.ProbeFile.{readStep, readStepCount, readSteps};
+ghost use Rattle.probe.specs.Answers.{indexedAnswer};
+ghost use Rattle.probe.specs.InPlace.{probeAt, Marked, Located};
+
+// How many variables and steps a probe file has, and the offset of each step.
+pub fn index(file: &[u8], offsets: &mut [usize]) -> Indexed
+    requires { ⌜ 576 ≤ length (now offsets) ⌝ }
+    ensures { λ r. ⌜ (indexedAnswer r ≡ probeAt (now (file .entry))) × Located (now (file .entry)) (now (offsets .exit)) ⌝ }
+{
+    match facts::head::read_head(file, Probe::MAX_VARIABLES, Probe::MAX_VALUES) {
+        Headed::Refused(why) => Indexed::Refused(why),
+        Headed::Head(variables, at) => index_steps(file, variables, at, offsets),
+    }
+}
+
+// The same, past the head, which ends at `at`.
+fn index_steps(file: &[u8], variables: usize, at: usize, offsets: &mut [usize]) -> Indexed
+    requires { ⌜ (headAt (now file) 57 66 ≡ accepted (variables, at)) × (576 ≤ length (now offsets)) ⌝ }
+    ensures { λ r. ⌜ (indexedAnswer r ≡ probeAt (now (file .entry))) × Located (now (file .entry)) (now (offsets .exit)) ⌝ }
+{
+    match step_count(file, at) {
+        Field::Refused(why) => Indexed::Refused(why),
+        Field::Value(count) => {
+            let steps = count as usize;
+            let sizes_end = 1 + variables;
+            match steps_end(file, at + 2, &file[1..sizes_end], steps, offsets) {
+                Past::Refused(why) => Indexed::Refused(why),
+                Past::Next(end) => {
+                    if end < file.len() {
+                        return Indexed::Refused(Refusal::Trailing(end));
+                    }
+                    Indexed::Steps(variables, steps)
+                }
+            }
+        }
+    }
+}
+
+// The step count at an offset.
+fn step_count(file: &[u8], at: usize) -> Field
+    ensures { λ r. ⌜ fieldAnswer r ≡ valueOf (readStepCount (now (file .entry)) at) ⌝ }
+{
+    match facts::number::read_word(file, at) {
+        Field::Refused(why) => Field::Refused(why),
+        Field::Value(count) => {
+            if (Probe::MAX_STEPS as u64) < count {
+                return Field::Refused(Refusal::Range(at));
+            }
+            Field::Value(count)
+        }
+    }
+}
+
+// Past the steps, noting where each starts.
+fn steps_end(file: &[u8], from: usize, sizes: &[u8], count: usize, offsets: &mut [usize]) -> Past
+    requires { ⌜ count ≤ length (now offsets) ⌝ }
+    ensures { λ r. ⌜ (pastAnswer r ≡ nextOf (readSteps (now (file .entry)) (now (sizes .entry)) count from)) × Marked (now (file .entry)) (now (sizes .entry)) count from (now (offsets .exit)) ⌝ }
+{
+    let mut at = from;
+    let mut i: usize = 0;
+    while i < count {
+        offsets[i] = at;
+        match step_end(file, at, sizes) {
+            Past::Next(next) => {
+                at = next;
+            }
+            Past::Refused(why) => {
+                return Past::Refused(why);
+            }
+        }
+        i += 1;
+    }
+    Past::Next(at)
+}
+
+// Past a step: precondition, effect, cost.
+fn step_end(file: &[u8], at: usize, sizes: &[u8]) -> Past
+    ensures { λ r. ⌜ pastAnswer r ≡ nextOf (readStep (now (file .entry)) (now (sizes .entry)) at) ⌝ }
+{
+    match facts::partial::partial_end(file, at, sizes) {
+        Past::Refused(why) => Past::Refused(why),
+        Past::Next(effect) => match facts::partial::partial_end(file, effect, sizes) {
+            Past::Refused(why) => Past::Refused(why),
+            Past::Next(cost) => match facts::number::read_word(file, cost) {
+                Field::Refused(why) => Past::Refused(why),
+                Field::Value(_) => Past::Next(cost + 2),
+            },
+        },
+    }
+}

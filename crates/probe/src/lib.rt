@@ -1,0 +1,110 @@
+// Probe files: checked and run. Nothing here knows of tasks or diagrams.
+mod index;
+mod step;
+
+use facts::Checked;
+use facts::Refusal;
+ghost use mathlib.Core.Path.{_≡_};
+ghost use Prim.Native.Nat.{_+_, _*_, _≤_};
+ghost use lib.ListN.{length, getD, take, drop};
+ghost use Rattle.facts.specs.Answers.{checkedAnswer};
+ghost use Rattle.facts.specs.Partial.{partialAt};
+ghost use Rattle.facts.specs.Run.{runFrom};
+ghost use Rattle.probe.specs.ProbeFile.{checkProbe, runProbe};
+ghost use Rattle.probe.specs.Answers.{ranAnswer};
+ghost use Rattle.probe.specs.InPlace.{moveAt, Within};
+
+// A probe file: its limits.
+pub struct Probe {}
+
+impl Probe {
+    pub const MAX_VARIABLES: u64 = 57;
+
+    pub const MAX_VALUES: u64 = 66;
+
+    pub const MAX_STEPS: usize = 576;
+
+    pub const MAX_LIST: usize = 6656;
+}
+
+// What a run answers.
+pub enum Ran {
+    Sum(u32),
+    Refused(Refusal),
+}
+
+// How many variables and how many steps an accepted file has.
+pub enum Indexed {
+    Steps(usize, usize),
+    Refused(Refusal),
+}
+
+// What a step answers; the state stands beside it.
+pub enum Applied {
+    Next(u32),
+    Blocked,
+}
+
+// Whether a probe file is accepted: refusals 1 to 5.
+pub fn check(file: &[u8]) -> Checked
+    ensures { λ r. ⌜ checkedAnswer r ≡ checkProbe (now (file .entry)) ⌝ }
+{
+    let mut offsets = [0; Probe::MAX_STEPS];
+    match index::index(file, &mut offsets) {
+        Indexed::Refused(why) => Checked::Refused(why),
+        Indexed::Steps(_, _) => Checked::Accepted,
+    }
+}
+
+// The sum of a list of steps: the file's refusals, then 8, then per step 11 before 9, and 10 at the end.
+pub fn run(file: &[u8], list: &[u16]) -> Ran
+    ensures { λ r. ⌜ ranAnswer r ≡ runProbe (now (file .entry)) (now (list .entry)) ⌝ }
+{
+    let mut offsets = [0; Probe::MAX_STEPS];
+    match index::index(file, &mut offsets) {
+        Indexed::Refused(why) => Ran::Refused(why),
+        Indexed::Steps(variables, steps) => {
+            if Probe::MAX_LIST < list.len() {
+                return Ran::Refused(Refusal::Long(Probe::MAX_LIST));
+            }
+            run_from_start(file, variables, &offsets[..steps], list)
+        }
+    }
+}
+
+// Runs a list from the initial state: `offsets` has the offset of each step.
+fn run_from_start(file: &[u8], variables: usize, offsets: &[usize], list: &[u16]) -> Ran
+    requires { ⌜ Within (now file) (now offsets) × (length (now list) ≤ 6656) × (variables ≤ 57) × (1 + 2 * variables ≤ length (now file)) ⌝ }
+    ensures { λ r. ⌜ ranAnswer r ≡ runFrom (length (now (offsets .entry))) (moveAt (now (file .entry)) (now (offsets .entry))) (partialAt (now (file .entry)) (1 + 2 * variables)) 0 0 (now (list .entry)) (take variables (drop (1 + variables) (now (file .entry)))) ⌝ }
+{
+    let init = 1 + variables;
+    let goal = init + variables;
+    let mut state = [0; 57];
+    bytes::copy(&file[init..goal], &mut state[..variables]);
+    run_list(file, goal, offsets, list, &mut state[..variables])
+}
+
+// Runs a list from a state: `offsets` has the offset of each step, and the goal starts at `goal`.
+fn run_list(file: &[u8], goal: usize, offsets: &[usize], list: &[u16], state: &mut [u8]) -> Ran
+    requires { ⌜ Within (now file) (now offsets) × (length (now list) ≤ 6656) ⌝ }
+    ensures { λ r. ⌜ ranAnswer r ≡ runFrom (length (now (offsets .entry))) (moveAt (now (file .entry)) (now (offsets .entry))) (partialAt (now (file .entry)) goal) 0 0 (now (list .entry)) (now (state .entry)) ⌝ }
+{
+    let mut sum: u32 = 0;
+    let mut i: usize = 0;
+    while i < list.len() {
+        let number = list[i] as usize;
+        if offsets.len() <= number {
+            return Ran::Refused(Refusal::Missing(i));
+        }
+        let answer = step::apply_step(file, offsets[number], state);
+        let Applied::Next(cost) = answer else {
+            return Ran::Refused(Refusal::Blocked(i));
+        };
+        sum += cost;
+        i += 1;
+    }
+    if facts::partial::holds_at(file, goal, state) {
+        return Ran::Sum(sum);
+    }
+    Ran::Refused(Refusal::Unmet(i))
+}
