@@ -7,3 +7,4 @@ pub mod InPlace
 pub mod ProbeLaws
 pub mod InPlaceLaws
 pub mod IndexLaws
+pub mod Examples

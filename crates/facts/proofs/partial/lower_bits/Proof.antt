@@ -1,6 +1,6 @@
 -- `facts::partial::lower_bits` meets its contract: a map of 64 bits has none from 64 on. Assumes nothing.
-use Prim.Native.Nat.{_*_, _%_, _^_}
-use mathlib.Core.Path.{_≡_, sym, _∙_}
+use Prim.Native.Nat.{_*_, _%_, _^_, _<_}
+use mathlib.Core.Path.{_≡_, sym, ap, subst, _∙_}
 use native.Mathlib.Nat.{one-mul, mod-eq-of-lt, lt-of-lt-of-le}
 use lib.Dec.{lit<}
 use lib.Pow.{pow-mono, pow-pos, shl-exact}
@@ -21,5 +21,5 @@ lower-bits-spec =
     (tie.spec
     returns
     (λ c. search needs)
-    (λ c. rw (power c) (pow-pos (c .before .args .variable)))
-    (λ c. rw (power c)))
+    (λ c. subst (λ b. 0 < b) (sym (power c)) (pow-pos (c .before .args .variable)))
+    (λ c. ap (λ b. c .before .args .map % b) (power c)))
