@@ -31,6 +31,12 @@ nextOf r = withValue (λ p. p .1) r
 abbrev pub valueOf : {X : Type 0} → Read (X × ℕ) → Read X
 valueOf r = withValue (λ p. p .0) r
 
+-- A precondition, an effect and a two-byte number: a step of a probe file with its cost, and the front of an action with its incoming weight.
+pub record Operator : Type 0 where
+  pub pre : Partial
+  pub eff : Partial
+  pub weight : ℕ
+
 -- what both kinds of file begin with: the domain sizes of the variables, the initial values and the goal
 pub record Head : Type 0 where
   pub sizes : List ℕ
@@ -79,6 +85,14 @@ module _ (f : List ℕ) where
     (values, at) ← readValues (standing map sizes) at
     accepted (record { map = map; values = values }, at)
 
+  -- precondition, effect, weight
+  unfoldable pub readOperator : List ℕ → ℕ → Read (Operator × ℕ)
+  readOperator sizes at = do
+    (pre, at) ← readPartial sizes at
+    (eff, at) ← readPartial sizes at
+    (weight, at) ← readWeight at
+    accepted (record { pre = pre; eff = eff; weight = weight }, at)
+
   -- the domain sizes of n variables
   unfoldable pub readSizes : ℕ → ℕ → ℕ → Read (List ℕ × ℕ)
   readSizes largest n at = each (λ v. readCount 2 largest) (upFrom 0 n) at
@@ -106,6 +120,9 @@ module _ (f : List ℕ) where
 abbrev pub writeEach : {X : Type 0} → (X → List ℕ) → List X → List ℕ
 writeEach write [] = []
 writeEach write (x ∷ xs) = write x ++ writeEach write xs
+
+unfoldable pub writeOperator : Operator → List ℕ
+writeOperator o = writePartial (o .pre) ++ (writePartial (o .eff) ++ bytesOf 2 (o .weight))
 
 unfoldable pub writeHead : Head → List ℕ
 writeHead h = bytesOf 1 (length (h .sizes)) ++ (h .sizes ++ (h .init ++ writePartial (h .goal)))

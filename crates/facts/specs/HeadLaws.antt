@@ -153,3 +153,39 @@ module _ (f : List ℕ) where
           head-good r =
               let m = made (λ (p : Partial × ℕ). p .1) (readPartial f sizes goal) r in
               rw (count-is, sizes-is, init-is, m .answer) (ap₂ (λ (n at : ℕ). accepted (n, at)) sizes-count (m .value))
+
+-- ---- a head that a reader went past
+
+module _ (f : List ℕ) (most largest : ℕ) {n at : ℕ} (h : headAt f most largest ≡ accepted (n, at)) where
+  -- the head that is there, with n variables
+  pub record Headed : Type 0 where
+    pub head : Head
+    pub is : readHead f most largest ≡ accepted (head, at)
+    pub count : length (head .sizes) ≡ n
+
+  pub headed : Headed
+  unfolding headAt
+  headed =
+      let m = made (λ (p : Head × ℕ). (length (p .0 .sizes), p .1)) (readHead f most largest) h in
+      record {
+        head = m .from .0;
+        is = m .answer ∙ ap (λ (e : ℕ). accepted (m .from .0, e)) (ap (λ (p : ℕ × ℕ). p .1) (m .value));
+        count = ap (λ (p : ℕ × ℕ). p .0) (m .value);
+      }
+
+  pub headed-read : Head-read f most largest (headed .head) at
+  headed-read = head-read f most largest (headed .is)
+
+  -- the domain sizes and the initial values lie in the file
+  pub headed-fits : (n ≤ most) × (1 + 2 * n ≤ at) × (at ≤ length f)
+  headed-fits =
+      let g = partial-read f (headed .head .sizes) (1 + 2 * length (headed .head .sizes)) (headed-read .goal) in
+      (omega (arith, headed .count, headed-read .wf .variables), omega (arith, headed .count, g .next), g .fits)
+
+  -- the domain sizes as they stand
+  pub headed-sizes : {k : ℕ} → k ≡ n → headed .head .sizes ≡ take k (drop 1 f)
+  headed-sizes same = headed-read .sizes ∙ ap (λ (j : ℕ). take j (drop 1 f)) (headed .count ∙ sym same)
+
+pub no-head : (f : List ℕ) (most largest : ℕ) {n p : ℕ} → headAt f most largest ≡ refused n p → readHead f most largest ≡ refused n p
+unfolding headAt
+no-head f most largest h = not-made (λ (p : Head × ℕ). (length (p .0 .sizes), p .1)) (readHead f most largest) h

@@ -19,6 +19,7 @@ pub mod PartialLaws
 pub mod EachLaws
 pub mod FieldLaws
 pub mod PartialReadLaws
+pub mod OperatorLaws
 pub mod HeadLaws
 pub mod StateLaws
 pub mod WriteLaws

@@ -19,7 +19,7 @@ use Rattle.facts.specs.BytesLaws.{little-bytes}
 use Rattle.facts.specs.Partial.{Partial, writePartial}
 use Rattle.facts.specs.PartialLaws.{wf-below}
 use Rattle.facts.specs.WellFormed.{WfPartial, WfHead}
-use Rattle.facts.specs.Fields.{each, Head, field, readCount, readValue, readMap, readWeight, readValues, readPartial, readSizes, readHead, writeEach, writeHead}
+use Rattle.facts.specs.Fields.{Operator, readOperator, writeOperator, each, Head, field, readCount, readValue, readMap, readWeight, readValues, readPartial, readSizes, readHead, writeEach, writeHead}
 use Rattle.facts.specs.FieldLaws.{Under, number-reads, field-good}
 use Rattle.facts.specs.PartialReadLaws.{inside-zip, values-zip}
 
@@ -120,6 +120,18 @@ module _ (f : List ℕ) where
       onward _ (map-reads (length sizes) (p .map) h (w .map-below) at (lies-left (bytesOf 8 (p .map)) (p .values) l))
       (onward _ (values-reads (values-zip sizes p (wf-below w) (w .values)) (at + 8) (lies-right (bytesOf 8 (p .map)) (p .values) l))
       (ap (λ (e : ℕ). accepted (p, e)) (omega arith)))
+
+  pub operator-reads : (sizes : List ℕ) (o : Operator) → length sizes ≤ 64 → WfPartial sizes (o .pre) → WfPartial sizes (o .eff) → o .weight ≤ 65535 → Reads (readOperator f sizes) (writeOperator o) o
+  unfolding readOperator writeOperator
+  operator-reads sizes o h p e w at l =
+      let pre = writePartial (o .pre) in
+      let eff = writePartial (o .eff) in
+      let weight = bytesOf 2 (o .weight) in
+      let l₂ = lies-right pre (eff ++ weight) l in
+      onward _ (partial-reads sizes (o .pre) h p at (lies-left pre (eff ++ weight) l))
+      (onward _ (partial-reads sizes (o .eff) h e (at + length pre) (lies-left eff weight l₂))
+      (onward _ (weight-reads (o .weight) w (at + length pre + length eff) (lies-right eff weight l₂))
+      (ap (λ (e : ℕ). accepted (o, e)) (omega (arith, length-append pre (eff ++ weight), length-append eff weight)))))
 
 -- ---- the head of a file
 

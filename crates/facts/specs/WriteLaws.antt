@@ -4,7 +4,7 @@ use mathlib.Core.List.{List, [], _++_, append-nil, append-assoc}
 use Prim.Native.Nat.{ℕ, _+_, _-_, _≤_, _<_}
 use native.Mathlib.Omega.{arith}
 use lib.ListN.{length, take, drop, length-append, length-drop, drop-of-length-le}
-use lib.Seq.{take-all, take-at, drop-at, drop-drop, take-length}
+use lib.Seq.{take-all, take-at, drop-at, drop-drop, take-length, drop-length}
 use borrow.Author.Tests.{le-leb, lt-leb}
 use borrow.Rule.Slice.PartMut.{putMid}
 use Rattle.facts.specs.Write.{over, fitting, Wrote}
@@ -37,6 +37,10 @@ length-over bytes out h = simp (length-append, length-drop) (omega arith)
 pub wrote-copy : (bytes out : List ℕ) {now : List ℕ} {n : ℕ} → n ≡ length bytes → now ≡ take (length bytes) bytes ++ drop (length bytes) out → Wrote bytes out now n
 unfolding over
 wrote-copy bytes out e h = record { count = e; buffer = h ∙ rw (take-length bytes) }
+
+-- a slice copied over one of the same length
+pub copied : (src dst : List ℕ) {now : List ℕ} → length src ≡ length dst → now ≡ take (length src) src ++ drop (length src) dst → now ≡ src
+copied src dst e h = h ∙ rw (take-length src, e, drop-length dst, append-nil)
 
 -- what is written after what is written: the rest of the buffer is lent, and comes back
 module _ {bytes before now : List ℕ} {at : ℕ} (w : Wrote bytes before now at) where

@@ -3,6 +3,7 @@ use crate::Field;
 use crate::Past;
 use crate::Refusal;
 use crate::number::read_map;
+use crate::number::read_word;
 ghost use mathlib.Core.Path.{_≡_};
 ghost use Prim.Native.Nat.{_+_, _%_, _^_, _≤_, _<_};
 ghost use lib.Count.{ones};
@@ -11,7 +12,7 @@ ghost use lib.ListN.{length};
 ghost use Rattle.facts.specs.Answers.{pastAnswer};
 ghost use Rattle.facts.specs.Bits.{Lowest};
 ghost use Rattle.facts.specs.Partial.{holds, apply, valuePlace, standingAt, partialAt};
-ghost use Rattle.facts.specs.Fields.{nextOf, standing, readValue, readValues, readPartial};
+ghost use Rattle.facts.specs.Fields.{nextOf, standing, readValue, readValues, readPartial, readOperator};
 
 // The length in bytes of a partial state with this map: "The count of standing bits is the count of value bytes."
 pub fn partial_length(map: u64) -> usize
@@ -52,6 +53,22 @@ pub fn partial_end(file: &[u8], at: usize, sizes: &[u8]) -> Past
                 Past::Next(_) => Past::Next(at + partial_length(map)),
             }
         }
+    }
+}
+
+// Past an operator: precondition, effect, weight.
+pub fn operator_end(file: &[u8], at: usize, sizes: &[u8]) -> Past
+    ensures { λ r. ⌜ pastAnswer r ≡ nextOf (readOperator (now (file .entry)) (now (sizes .entry)) at) ⌝ }
+{
+    match partial_end(file, at, sizes) {
+        Past::Refused(why) => Past::Refused(why),
+        Past::Next(effect) => match partial_end(file, effect, sizes) {
+            Past::Refused(why) => Past::Refused(why),
+            Past::Next(weight) => match read_word(file, weight) {
+                Field::Refused(why) => Past::Refused(why),
+                Field::Value(_) => Past::Next(weight + 2),
+            },
+        },
     }
 }
 

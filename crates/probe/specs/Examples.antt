@@ -7,7 +7,7 @@ use lib.ListN.{length, set, replicate, take}
 use Rattle.facts.specs.Read.{Read, accepted, refused}
 use Rattle.facts.specs.Bytes.{numberAt}
 use Rattle.facts.specs.Partial.{Partial, writePartial}
-use Rattle.facts.specs.Fields.{readNumber, field, readCount, readValue, readMap, readWeight, readValues, readPartial, readSizes, readHead, readEnd, writeHead}
+use Rattle.facts.specs.Fields.{readNumber, field, readCount, readValue, readMap, readWeight, readValues, readPartial, readOperator, readSizes, readHead, readEnd, writeOperator, writeHead}
 use Rattle.facts.specs.Run.{runFrom, atMost}
 use Rattle.probe.specs.Probe.{Step, Probe, stepMove, probeSum}
 use Rattle.probe.specs.ProbeFile.{readStep, readStepCount, readSteps, readProbe, writeStep, writeProbe, checkProbe, runProbe}
@@ -47,11 +47,11 @@ P-probe = record {
 }
 
 P-read : readProbe P-file ≡ accepted P-probe
-unfolding readProbe readSteps readStepCount readStep readHead readSizes readValues readPartial readWeight readMap readValue readCount readEnd field readNumber numberAt
+unfolding readProbe readSteps readStepCount readStep readOperator readHead readSizes readValues readPartial readWeight readMap readValue readCount readEnd field readNumber numberAt
 P-read = refl
 
 P-written : writeProbe P-probe ≡ P-file
-unfolding writeProbe writeStep writeHead writePartial
+unfolding writeProbe writeStep writeOperator writeHead writePartial
 P-written = refl
 
 -- ---- runs of P's file, and the table of refusals for probe files: each row with what is answered
@@ -79,7 +79,7 @@ run-cases =
     ∷ []
 
 runs : map (λ c. runProbe P-file (c .list)) run-cases ≡ map (λ c. c .answer) run-cases
-unfolding runProbe readProbe readSteps readStepCount readStep readHead readSizes readValues readPartial readWeight readMap readValue readCount readEnd field readNumber numberAt atMost probeSum runFrom stepMove
+unfolding runProbe readProbe readSteps readStepCount readStep readOperator readHead readSizes readValues readPartial readWeight readMap readValue readCount readEnd field readNumber numberAt atMost probeSum runFrom stepMove
 runs = refl
 
 -- a file that is turned down: the refusal's number and place
@@ -121,5 +121,5 @@ refusal-cases =
     ∷ []
 
 refusals : map (λ c. checkProbe (c .file)) refusal-cases ≡ map (λ c. refused (c .number) (c .place)) refusal-cases
-unfolding checkProbe readProbe readSteps readStepCount readStep readHead readSizes readValues readPartial readWeight readMap readValue readCount readEnd field readNumber numberAt
+unfolding checkProbe readProbe readSteps readStepCount readStep readOperator readHead readSizes readValues readPartial readWeight readMap readValue readCount readEnd field readNumber numberAt
 refusals = refl

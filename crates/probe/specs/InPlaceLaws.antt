@@ -18,10 +18,10 @@ use Rattle.facts.specs.Bytes.{numberAt}
 use Rattle.facts.specs.Partial.{Partial, holds, apply, partialBytes, standingAt, partialAt}
 use Rattle.facts.specs.PartialLaws.{partial-here, partial-cut}
 use Rattle.facts.specs.Run.{next, blocked, attempt}
-use Rattle.facts.specs.Fields.{nextOf, readNumber, readWeight, readPartial}
+use Rattle.facts.specs.Fields.{nextOf, Operator, readNumber, field, readOperator}
 use Rattle.facts.specs.EachLaws.{next-snoc}
 use Rattle.facts.specs.FieldLaws.{number-reads, number-read, number-short, field-refused, field-wrong, field-good, weight-read}
-use Rattle.facts.specs.PartialReadLaws.{partial-read}
+use Rattle.facts.specs.OperatorLaws.{operator-read}
 use Rattle.probe.specs.Probe.{Step, maxSteps, perform}
 use Rattle.probe.specs.ProbeFile.{readStep, readStepCount, readSteps}
 use Rattle.probe.specs.InPlace.{costAt, effectPlace, stepAt, Marked}
@@ -49,47 +49,21 @@ module _ (f sizes : List ℕ) (at : ℕ) where
   pub step-read : {st : Step} {e : ℕ} → readStep f sizes at ≡ accepted (st, e) → Step-read st e
   unfolding readStep
   step-read h =
-      let a = through (readPartial f sizes at) h in
-      let b = through (readPartial f sizes (a .got .1)) (a .then) in
-      let c = through (readWeight f (b .got .1)) (b .then) in
-      let p = partial-read f sizes at (a .first) in
-      let q = partial-read f sizes (a .got .1) (b .first) in
-      let w = weight-read f (b .got .1) (c .first) in
-      carried (c .then) Step-read (record {
-        same = step-is f at (a .got .0) (b .got .0) (a .got .1) (b .got .1) (c .got .0) (p .same) (p .next) (q .same) (q .next) (cost-is f (b .got .1) (c .got .0) (w .fits) (w .value));
-        fits = omega (arith, p .next, p .fits);
+      let a = through (readOperator f sizes at) h in
+      let o = operator-read f sizes at (a .first) in
+      carried (a .then) Step-read (record {
+        same = step-is f at (a .got .0 .pre) (a .got .0 .eff) (o .effect) (o .place) (a .got .0 .weight) (o .pre .same) (o .pre .next) (o .eff .same) (o .eff .next) (cost-is f (o .place) (a .got .0 .weight) (o .weight .fits) (o .weight .value));
+        fits = omega (arith, o .pre .next, o .pre .fits);
       })
 
-  -- the ways in which a step can go, past it
-  pub step-no-pre : {n p : ℕ} → nextOf (readPartial f sizes at) ≡ refused n p → nextOf (readStep f sizes at) ≡ refused n p
+  -- past a step is past its operator
+  pub next-step : nextOf (readStep f sizes at) ≡ nextOf (readOperator f sizes at)
   unfolding readStep
-  step-no-pre h = rw (not-made (λ (p : Partial × ℕ). p .1) (readPartial f sizes at) h)
-
-  module _ {effect : ℕ} (h : nextOf (readPartial f sizes at) ≡ accepted effect) where
-    abbrev pre : Partial
-    pre = made (λ (p : Partial × ℕ). p .1) (readPartial f sizes at) h .from .0
-
-    pre-is : readPartial f sizes at ≡ accepted (pre, effect)
-    pre-is = let m = made (λ (p : Partial × ℕ). p .1) (readPartial f sizes at) h in m .answer ∙ ap (λ (e : ℕ). accepted (pre, e)) (m .value)
-
-    pub step-no-effect : {n p : ℕ} → nextOf (readPartial f sizes effect) ≡ refused n p → nextOf (readStep f sizes at) ≡ refused n p
-    unfolding readStep
-    step-no-effect g = rw (pre-is, not-made (λ (p : Partial × ℕ). p .1) (readPartial f sizes effect) g)
-
-    module _ {cost : ℕ} (g : nextOf (readPartial f sizes effect) ≡ accepted cost) where
-      abbrev eff : Partial
-      eff = made (λ (p : Partial × ℕ). p .1) (readPartial f sizes effect) g .from .0
-
-      eff-is : readPartial f sizes effect ≡ accepted (eff, cost)
-      eff-is = let m = made (λ (p : Partial × ℕ). p .1) (readPartial f sizes effect) g in m .answer ∙ ap (λ (e : ℕ). accepted (eff, e)) (m .value)
-
-      pub step-no-cost : {n p : ℕ} → readNumber f 2 cost ≡ refused n p → nextOf (readStep f sizes at) ≡ refused n p
-      unfolding readStep readWeight
-      step-no-cost e = rw (pre-is, eff-is, field-refused f 2 (λ w. true) 3 cost e)
-
-      pub step-good : {n : ℕ} → readNumber f 2 cost ≡ accepted n → nextOf (readStep f sizes at) ≡ accepted (cost + 2)
-      unfolding readStep readWeight
-      step-good e = rw (pre-is, eff-is, field-good f 2 (λ w. true) 3 cost e refl)
+  next-step = go (readOperator f sizes at)
+    where
+      go : (r : Read (Operator × ℕ)) → nextOf {X = Step} (_>>=_ r (λ (p : Operator × ℕ). accepted (record { pre = p .0 .pre; eff = p .0 .eff; cost = p .0 .weight }, p .1))) ≡ nextOf r
+      go (accepted p) = refl
+      go (refused n p) = refl
 
 -- ---- the step count
 

@@ -16,7 +16,7 @@ use Rattle.facts.specs.RunLaws.{run-same, list-long, list-fits}
 use Rattle.facts.specs.Fields.{nextOf, valueOf, Head, readHead, headAt, readEnd}
 use Rattle.facts.specs.EachLaws.{each-length, each-at}
 use Rattle.facts.specs.PartialReadLaws.{partial-read}
-use Rattle.facts.specs.HeadLaws.{Head-read, head-read}
+use Rattle.facts.specs.HeadLaws.{head-read, headed, headed-sizes, no-head}
 use Rattle.probe.specs.Probe.{Step, Probe, maxSteps, maxList, perform, stepMove, probeSum}
 use Rattle.probe.specs.ProbeFile.{readStep, readStepCount, readSteps, readProbe, checkProbe, runProbe}
 use Rattle.probe.specs.ProbeLaws.{probe-lines, count-most, move-at}
@@ -41,40 +41,19 @@ module _ (f : List ℕ) where
   -- ---- the ways in which a file can go
 
   pub probe-no-head : {n p : ℕ} → headAt f 57 66 ≡ refused n p → probeAt f ≡ refused n p
-  unfolding probeAt readProbe headAt
-  probe-no-head h = rw (not-made (λ (p : Head × ℕ). (length (p .0 .sizes), p .1)) (readHead f 57 66) h)
+  unfolding probeAt readProbe
+  probe-no-head h = rw (no-head f 57 66 h)
 
   module _ {n at : ℕ} (h : headAt f 57 66 ≡ accepted (n, at)) where
-    pub record Headed : Type 0 where
-      pub head : Head
-      pub head-is : readHead f 57 66 ≡ accepted (head, at)
-      pub count : length (head .sizes) ≡ n
-
-    pub headed : Headed
-    unfolding headAt
-    headed =
-        let m = made (λ (p : Head × ℕ). (length (p .0 .sizes), p .1)) (readHead f 57 66) h in
-        record {
-          head = m .from .0;
-          head-is = m .answer ∙ ap (λ (e : ℕ). accepted (m .from .0, e)) (ap (λ (p : ℕ × ℕ). p .1) (m .value));
-          count = ap (λ (p : ℕ × ℕ). p .0) (m .value);
-        }
-
     abbrev head : Head
-    head = headed .head
+    head = headed f 57 66 h .head
 
-    read : Head-read f 57 66 head at
-    read = head-read f 57 66 (headed .head-is)
-
-    -- the variables' domain sizes and initial values lie in the file
-    pub head-fits : (n ≤ 57) × (1 + 2 * n ≤ at) × (at ≤ length f)
-    head-fits =
-        let g = partial-read f (head .sizes) (1 + 2 * length (head .sizes)) (read .goal) in
-        (omega (arith, headed .count, read .wf .variables), omega (arith, headed .count, g .next), g .fits)
+    abbrev head-is : readHead f 57 66 ≡ accepted (head, at)
+    head-is = headed f 57 66 h .is
 
     pub probe-no-count : {k p : ℕ} → valueOf (readStepCount f at) ≡ refused k p → probeAt f ≡ refused k p
     unfolding probeAt readProbe
-    probe-no-count g = rw (headed .head-is, not-made (λ (p : ℕ × ℕ). p .0) (readStepCount f at) g)
+    probe-no-count g = rw (head-is, not-made (λ (p : ℕ × ℕ). p .0) (readStepCount f at) g)
 
     module _ {count : ℕ} (g : valueOf (readStepCount f at) ≡ accepted count) where
       count-is : readStepCount f at ≡ accepted (count, at + 2)
@@ -91,11 +70,11 @@ module _ (f : List ℕ) where
         sizes = take k (drop 1 f)
 
         sizes-are : head .sizes ≡ sizes
-        sizes-are = read .sizes ∙ ap (λ (j : ℕ). take j (drop 1 f)) (headed .count ∙ sym same)
+        sizes-are = headed-sizes f 57 66 h same
 
         pub probe-no-steps : {m p : ℕ} → nextOf (readSteps f sizes count (at + 2)) ≡ refused m p → probeAt f ≡ refused m p
         unfolding probeAt readProbe
-        probe-no-steps s = rw (headed .head-is, count-is, sizes-are, not-made (λ (p : List Step × ℕ). p .1) (readSteps f sizes count (at + 2)) s)
+        probe-no-steps s = rw (head-is, count-is, sizes-are, not-made (λ (p : List Step × ℕ). p .1) (readSteps f sizes count (at + 2)) s)
 
         module _ {end : ℕ} (s : nextOf (readSteps f sizes count (at + 2)) ≡ accepted end) where
           abbrev steps : List Step
@@ -110,11 +89,11 @@ module _ (f : List ℕ) where
 
           pub probe-trailing : end < length f → probeAt f ≡ refused 2 end
           unfolding probeAt readProbe readEnd
-          probe-trailing l = rw (headed .head-is, count-is, sizes-are, steps-are, lt-leb (length f) end l)
+          probe-trailing l = rw (head-is, count-is, sizes-are, steps-are, lt-leb (length f) end l)
 
           pub probe-good : length f ≤ end → probeAt f ≡ accepted (n, count)
           unfolding probeAt readProbe readEnd
-          probe-good l = rw (headed .head-is, count-is, sizes-are, steps-are, le-leb (length f) end l) (ap₂ (λ (i j : ℕ). accepted (i, j)) (ap length (sym sizes-are) ∙ headed .count) steps-count)
+          probe-good l = rw (head-is, count-is, sizes-are, steps-are, le-leb (length f) end l) (ap₂ (λ (i j : ℕ). accepted (i, j)) (ap length (sym sizes-are) ∙ headed f 57 66 h .count) steps-count)
 
           -- the offsets that were noted are those of the steps
           pub located : (offsets : List ℕ) → Marked f sizes count (at + 2) offsets → Located f offsets
@@ -122,8 +101,8 @@ module _ (f : List ℕ) where
           located offsets m = record {
             lies = λ p r k st a.
                 let l = probe-lines f r in
-                let head-same : l .head ≡ head = value-of (sym (l .head-is) ∙ headed .head-is) in
-                let at-same : l .at₁ ≡ at = next-of (sym (l .head-is) ∙ headed .head-is) in
+                let head-same : l .head ≡ head = value-of (sym (l .head-is) ∙ head-is) in
+                let at-same : l .at₁ ≡ at = next-of (sym (l .head-is) ∙ head-is) in
                 let c : readStepCount f at ≡ accepted (l .count, l .at₂) = ap (readStepCount f) (sym at-same) ∙ l .count-is in
                 let count-same : l .count ≡ count = value-of (sym c ∙ count-is) in
                 let next-same : l .at₂ ≡ at + 2 = next-of (sym c ∙ count-is) in
@@ -224,7 +203,3 @@ module _ (f : List ℕ) {n k : ℕ} (h : probeAt f ≡ accepted (n, k)) where
         rw (accepted-probe .reads, list-fits maxList list l)
         (sym (run-in-place f offsets (accepted-probe .reads) loc list (take n (drop (1 + n) f)) (1 + 2 * n) (omega (arith, accepted-probe .steps)) (starts .init) (starts .goal))
         ∙ ap (λ (j : ℕ). runFrom (length (take j offsets)) (moveAt f (take j offsets)) (partialAt f (1 + 2 * n)) 0 0 list (take n (drop (1 + n) f))) (accepted-probe .steps))
-
--- a slice copied over one of the same length
-pub copied : (src dst : List ℕ) {last : List ℕ} → length src ≡ length dst → last ≡ take (length src) src ++ drop (length src) dst → last ≡ src
-copied src dst e h = h ∙ rw (take-length src, e, drop-length dst, append-nil)

@@ -6,8 +6,7 @@ use lib.ListN.{length}
 use Rattle.facts.specs.Read.{Read, accepted, withValue, _>>=_}
 use Rattle.facts.specs.Lists.{upFrom}
 use Rattle.facts.specs.Bytes.{bytesOf}
-use Rattle.facts.specs.Partial.{writePartial}
-use Rattle.facts.specs.Fields.{each, field, readWeight, readPartial, readHead, readEnd, writeEach, writeHead}
+use Rattle.facts.specs.Fields.{each, field, readOperator, readHead, readEnd, writeEach, writeOperator, writeHead}
 use Rattle.facts.specs.Run.{atMost}
 use Rattle.probe.specs.Probe.{Step, Probe, maxVariables, maxValues, maxSteps, maxList, probeSum}
 
@@ -17,10 +16,8 @@ module _ (f : List ℕ) where
   -- precondition, effect, cost
   unfoldable pub readStep : List ℕ → ℕ → Read (Step × ℕ)
   readStep sizes at = do
-    (pre, at) ← readPartial f sizes at
-    (eff, at) ← readPartial f sizes at
-    (cost, at) ← readWeight f at
-    accepted (record { pre = pre; eff = eff; cost = cost }, at)
+    (o, at) ← readOperator f sizes at
+    accepted (record { pre = o .pre; eff = o .eff; cost = o .weight }, at)
 
   -- the step count: two bytes
   unfoldable pub readStepCount : ℕ → Read (ℕ × ℕ)
@@ -40,7 +37,7 @@ module _ (f : List ℕ) where
 -- ---- writing
 
 unfoldable pub writeStep : Step → List ℕ
-writeStep st = writePartial (st .pre) ++ (writePartial (st .eff) ++ bytesOf 2 (st .cost))
+writeStep st = writeOperator (record { pre = st .pre; eff = st .eff; weight = st .cost })
 
 unfoldable pub writeProbe : Probe → List ℕ
 writeProbe p = writeHead (record { sizes = p .sizes; init = p .init; goal = p .goal }) ++ (bytesOf 2 (length (p .steps)) ++ writeEach writeStep (p .steps))

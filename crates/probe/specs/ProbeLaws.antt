@@ -15,18 +15,19 @@ use Rattle.facts.specs.ReadLaws.{through, onward, carried}
 use Rattle.facts.specs.Lists.{upFrom, At}
 use Rattle.facts.specs.ListLaws.{length-upFrom, zip-length, zip-all, zip-map, all-zip, look, found, at-length}
 use Rattle.facts.specs.Bytes.{bytesOf, Bytes}
-use Rattle.facts.specs.BytesLaws.{little-bytes}
+use Rattle.facts.specs.BytesLaws.{little-bytes, two-below}
 use Rattle.facts.specs.Partial.{writePartial}
 use Rattle.facts.specs.State.{Inside}
 use Rattle.facts.specs.WellFormed.{WfPartial, WfHead}
 use Rattle.facts.specs.Run.{Move, next, blocked}
 use Rattle.facts.specs.RunLaws.{not-blocked, plan-answers}
-use Rattle.facts.specs.Fields.{Head, readWeight, readPartial, readHead, readEnd, writeEach, writeHead}
+use Rattle.facts.specs.Fields.{Head, readOperator, readHead, readEnd, writeEach, writeHead}
 use Rattle.facts.specs.EachLaws.{each-zip}
 use Rattle.facts.specs.FieldLaws.{taken, weight-most}
 use Rattle.facts.specs.PartialReadLaws.{partial-read}
+use Rattle.facts.specs.OperatorLaws.{operator-read}
 use Rattle.facts.specs.HeadLaws.{head-read}
-use Rattle.facts.specs.ReadBack.{Lies, lies-whole, lies-left, lies-right, Reads, field-reads, each-reads, weight-reads, partial-reads, head-reads}
+use Rattle.facts.specs.ReadBack.{operator-reads, Lies, lies-whole, lies-left, lies-right, Reads, field-reads, each-reads, weight-reads, partial-reads, head-reads}
 use Rattle.probe.specs.Probe.{Step, Probe, maxSteps, perform, stepMove, probeSum, ProbePlan, WfStep, WfProbe}
 use Rattle.probe.specs.ProbeFile.{readStep, readStepCount, readSteps, readProbe, writeStep, writeProbe}
 
@@ -78,10 +79,9 @@ module _ (f : List ℕ) (bytes : Bytes f) where
   step-wf : (sizes : List ℕ) (at : ℕ) {st : Step} {e : ℕ} → readStep f sizes at ≡ accepted (st, e) → WfStep sizes st
   unfolding readStep
   step-wf sizes at h =
-      let a = through (readPartial f sizes at) h in
-      let b = through (readPartial f sizes (a .got .1)) (a .then) in
-      let c = through (readWeight f (b .got .1)) (b .then) in
-      carried (c .then) (λ st e. WfStep sizes st) (record { pre = partial-read f sizes at (a .first) .wf; eff = partial-read f sizes (a .got .1) (b .first) .wf; cost = weight-most f bytes (b .got .1) (c .first) })
+      let a = through (readOperator f sizes at) h in
+      let o = operator-read f sizes at (a .first) in
+      carried (a .then) (λ st e. WfStep sizes st) (record { pre = o .pre .wf; eff = o .eff .wf; cost = rw (o .weight .value) at (two-below f (o .place) bytes) })
 
   pub probe-wf : {p : Probe} → readProbe f ≡ accepted p → WfProbe p
   unfolding readSteps
@@ -104,15 +104,7 @@ module _ (f : List ℕ) (bytes : Bytes f) where
 module _ (f : List ℕ) where
   step-reads : (sizes : List ℕ) (st : Step) → length sizes ≤ 64 → WfStep sizes st → Reads f (readStep f sizes) (writeStep st) st
   unfolding readStep writeStep
-  step-reads sizes st h w at l =
-      let pre = writePartial (st .pre) in
-      let eff = writePartial (st .eff) in
-      let cost = bytesOf 2 (st .cost) in
-      let l₂ = lies-right pre (eff ++ cost) l in
-      onward _ (partial-reads f sizes (st .pre) h (w .pre) at (lies-left pre (eff ++ cost) l))
-      (onward _ (partial-reads f sizes (st .eff) h (w .eff) (at + length pre) (lies-left eff cost l₂))
-      (onward _ (weight-reads f (st .cost) (w .cost) (at + length pre + length eff) (lies-right eff cost l₂))
-      (ap (λ (e : ℕ). accepted (st, e)) (omega (arith, length-append pre (eff ++ cost), length-append eff cost)))))
+  step-reads sizes st h w at l = onward _ (operator-reads f sizes (record { pre = st .pre; eff = st .eff; weight = st .cost }) h (w .pre) (w .eff) (w .cost) at l) refl
 
   count-reads : (n : ℕ) → n ≤ maxSteps → Reads f (readStepCount f) (bytesOf 2 n) n
   unfolding readStepCount

@@ -11,7 +11,7 @@ ghost use lib.ListN.{length};
 ghost use Rattle.facts.specs.Read.{accepted};
 ghost use Rattle.facts.specs.Answers.{fieldAnswer, pastAnswer};
 ghost use Rattle.facts.specs.Fields.{nextOf, valueOf, headAt};
-ghost use Rattle.probe.specs.ProbeFile.{readStep, readStepCount, readSteps};
+ghost use Rattle.probe.specs.ProbeFile.{readStepCount, readSteps};
 ghost use Rattle.probe.specs.Answers.{indexedAnswer};
 ghost use Rattle.probe.specs.InPlace.{probeAt, Marked, Located};
 
@@ -73,7 +73,7 @@ fn steps_end(file: &[u8], from: usize, sizes: &[u8], count: usize, offsets: &mut
     let mut i: usize = 0;
     while i < count {
         offsets[i] = at;
-        match step_end(file, at, sizes) {
+        match facts::partial::operator_end(file, at, sizes) {
             Past::Next(next) => {
                 at = next;
             }
@@ -84,20 +84,4 @@ fn steps_end(file: &[u8], from: usize, sizes: &[u8], count: usize, offsets: &mut
         i += 1;
     }
     Past::Next(at)
-}
-
-// Past a step: precondition, effect, cost.
-fn step_end(file: &[u8], at: usize, sizes: &[u8]) -> Past
-    ensures { λ r. ⌜ pastAnswer r ≡ nextOf (readStep (now (file .entry)) (now (sizes .entry)) at) ⌝ }
-{
-    match facts::partial::partial_end(file, at, sizes) {
-        Past::Refused(why) => Past::Refused(why),
-        Past::Next(effect) => match facts::partial::partial_end(file, effect, sizes) {
-            Past::Refused(why) => Past::Refused(why),
-            Past::Next(cost) => match facts::number::read_word(file, cost) {
-                Field::Refused(why) => Past::Refused(why),
-                Field::Value(_) => Past::Next(cost + 2),
-            },
-        },
-    }
 }

@@ -8,7 +8,7 @@ use lib.Seq.{length-take-le, take-at}
 use Rattle.facts.specs.Partial.{partialAt}
 use Rattle.facts.specs.Run.{runFrom}
 use Rattle.probe.specs.InPlace.{moveAt}
-use Rattle.probe.specs.IndexLaws.{copied}
+use Rattle.facts.specs.WriteLaws.{copied}
 use borrow.Author.Needs.{needs}
 use native.Mathlib.Omega.{arith}
 use Rattle.probe.proofs.run_from_start.Statement.{statement}

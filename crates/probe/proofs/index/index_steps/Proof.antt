@@ -6,8 +6,9 @@ use lib.ListN.{take, drop}
 use Rattle.facts.specs.Read.{accepted}
 use Rattle.facts.specs.Answers.{fieldAnswer, pastAnswer}
 use Rattle.facts.specs.Fields.{nextOf, valueOf}
+use Rattle.facts.specs.HeadLaws.{headed-fits}
 use Rattle.probe.specs.ProbeFile.{readStepCount, readSteps}
-use Rattle.probe.specs.IndexLaws.{head-fits, count-fits, probe-no-count, probe-no-steps, probe-trailing, probe-good, located, located-none}
+use Rattle.probe.specs.IndexLaws.{count-fits, probe-no-count, probe-no-steps, probe-trailing, probe-good, located, located-none}
 use borrow.Author.Needs.{needs}
 use native.Mathlib.Omega.{arith}
 use Rattle.probe.proofs.index.index_steps.Statement.{statement}
@@ -24,13 +25,13 @@ steps-are : (c : tie.After-end) → let a = c .before .before .before .before .b
 steps-are c = sym (c .before .before .before .before .steps-end .ensures .0) ∙ ap pastAnswer (c .end .given .1)
 
 add-sizes-end : tie.Need-add-sizes-end
-add-sizes-end c = omega (arith, head-fits _ (c .before .before .before .before .before .before .pre .0))
+add-sizes-end c = omega (arith, headed-fits _ 57 66 (c .before .before .before .before .before .before .pre .0))
 
 add-steps-end : tie.Need-add-steps-end
 add-steps-end c = omega (arith, count-fits _ (c .before .before .before .before .before .before .pre .0) (count-is (c .before)))
 
 part-steps-end-end : tie.Need-part-steps-end-end
-part-steps-end-end c = omega (arith, head-fits _ (c .before .before .before .before .before .before .pre .0))
+part-steps-end-end c = omega (arith, headed-fits _ 57 66 (c .before .before .before .before .before .before .pre .0))
 
 steps-end-requires : tie.Need-steps-end-requires
 steps-end-requires c κs = omega (arith, c .before .before .before .before .before .before .before .before .pre .1, count-fits _ (c .before .before .before .before .before .before .before .before .pre .0) (count-is (c .before .before .before)) .0)

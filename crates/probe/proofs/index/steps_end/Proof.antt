@@ -11,7 +11,7 @@ use Rattle.facts.specs.Answers.{pastAnswer}
 use Rattle.facts.specs.Fields.{nextOf, each}
 use Rattle.facts.specs.EachLaws.{each-on, each-stops, each-done}
 use Rattle.probe.specs.ProbeFile.{readStep, readSteps}
-use Rattle.probe.specs.InPlaceLaws.{steps-more, marked-none, marks-more}
+use Rattle.probe.specs.InPlaceLaws.{next-step, steps-more, marked-none, marks-more}
 use borrow.Author.Needs.{needs}
 use native.Mathlib.Omega.{arith}
 use Rattle.probe.proofs.index.steps_end.Statement.{statement}
@@ -37,14 +37,14 @@ returns c =
     let l = c .before .before .before .before .before .loop in
     let a = c .before .before .before .before .before .before .before .before .before .args in
     let e = l .inv .2 ∙ each-stops (λ r. readStep (now (a .file)) (now (a .sizes))) (upFrom 0 (a .count)) 0 (l .i) (l .at) (omega (arith, length-upFrom 0 (a .count)))
-    (sym (c .before .before .before .step-end .ensures) ∙ ap pastAnswer (c .before .why .given .1)) in
+    (next-step _ _ _ ∙ sym (c .before .before .before .operator-end .ensures) ∙ ap pastAnswer (c .before .why .given .1)) in
     (sym e, marked-none (now (a .file)) (now (a .sizes)) (a .count) (a .from) (set (l .offsets) (l .i) (l .at)) e)
 
 loop-again : tie.Need-loop-again Inv-loop μ-loop
 loop-again c =
     let l = c .before .before .before .before .before .loop in
     let a = c .before .before .before .before .before .before .before .before .before .args in
-    let step = sym (c .before .before .before .step-end .ensures) ∙ ap pastAnswer (c .before .next .given .1) in (
+    let step = next-step _ _ _ ∙ sym (c .before .before .before .operator-end .ensures) ∙ ap pastAnswer (c .before .next .given .1) in (
       omega arith,
       length-set (l .offsets) (l .i) (l .at) ∙ l .inv .1,
       l .inv .2 ∙ each-on (λ r. readStep (now (a .file)) (now (a .sizes))) (upFrom 0 (a .count)) 0 (l .i) (l .at) (omega (arith, length-upFrom 0 (a .count))) step,

@@ -1,0 +1,19 @@
+-- `task::diagram::offset_at` meets its contract: the element, and past the last one the default. Assumes nothing.
+use mathlib.Core.Path.{sym}
+use denote.Ref.{now}
+use lib.ListN.{List·getD-eq-default}
+use borrow.Author.Needs.{needs}
+use Rattle.task.proofs.diagram.offset_at.Statement.{statement}
+use Rattle.task.proofs.diagram.offset_at.Tie as tie
+
+returns : tie.Need-returns
+returns c = sym (List·getD-eq-default (now (c .before .args .offsets)) 0 (c .if1 .taken))
+
+pub offset-at-spec : {M : Type 1} → statement M
+offset-at-spec =
+    tie.close
+    (tie.spec
+    returns
+    (λ c. search needs)
+    (λ c. search needs)
+    (λ c. search needs))

@@ -1,0 +1,198 @@
+// Task files: read, costed and run.
+mod action;
+mod diagram;
+mod index;
+mod walk;
+
+use facts::Checked;
+use facts::Refusal;
+ghost use mathlib.Core.Path.{_≡_};
+ghost use Prim.Native.Nat.{_+_, _*_, _≤_};
+ghost use lib.ListN.{length, take, drop};
+ghost use Rattle.facts.specs.Read.{accepted};
+ghost use Rattle.facts.specs.Answers.{checkedAnswer};
+ghost use Rattle.task.specs.TaskFile.{checkTask, costTask, runTask};
+ghost use Rattle.task.specs.Answers.{costedAnswer, ranAnswer};
+ghost use Rattle.task.specs.InPlace.{taskAt, Located};
+ghost use Rattle.task.specs.Index.{IndexOf, Ready};
+
+// Where the parts of an accepted task file stand: how many variables and actions it has, where each action starts, which of all nodes is its first, and where each node starts.
+pub struct Task {
+    pub variables: usize,
+    pub actions: usize,
+    pub starts: [usize; 32],
+    pub firsts: [usize; 32],
+    pub nodes: [usize; 64],
+}
+
+impl Task {
+    pub const MAX_VARIABLES: u64 = 24;
+
+    pub const MAX_VALUES: u64 = 8;
+
+    pub const MAX_ACTIONS: u64 = 32;
+
+    pub const MAX_NODES: usize = 64;
+
+    pub const MAX_BYTES: usize = 3826;
+
+    pub const MAX_LIST: usize = 256;
+}
+
+// The index of a file, and whether it is accepted.
+pub struct Indexed {
+    pub answer: Checked,
+    pub task: Task,
+}
+
+// Where the next field starts, and how many nodes the diagram before it has.
+pub enum Drawn {
+    Next(usize, usize),
+    Refused(Refusal),
+}
+
+// How many variables and how many actions an accepted file has.
+pub enum Counted {
+    Actions(usize, usize),
+    Refused(Refusal),
+}
+
+// What an action costs.
+pub enum Costed {
+    Cost(u32),
+    Refused(Refusal),
+}
+
+// What a run answers.
+pub enum Ran {
+    Sum(u32),
+    Refused(Refusal),
+}
+
+// What an action answers; the state stands beside it.
+pub enum Applied {
+    Next(u32),
+    Blocked,
+}
+
+// Whether a task file is accepted: refusals 1 to 6.
+pub fn check(file: &[u8]) -> Checked
+    ensures { λ r. ⌜ checkedAnswer r ≡ checkTask (now (file .entry)) ⌝ }
+{
+    let indexed = index_of(file);
+    indexed.answer
+}
+
+// Where the parts of a task file stand, if it is accepted.
+pub fn index_of(file: &[u8]) -> Indexed
+    ensures { λ r. ⌜ IndexOf (now (file .entry)) r ⌝ }
+{
+    let mut action_at = [0; 32];
+    let mut first_node = [0; 32];
+    let mut node_at = [0; 64];
+    let counted = index::index_into(file, &mut action_at, &mut first_node, &mut node_at);
+    match counted {
+        Counted::Refused(why) => Indexed {
+            answer: Checked::Refused(why),
+            task: Task {
+                variables: 0,
+                actions: 0,
+                starts: action_at,
+                firsts: first_node,
+                nodes: node_at,
+            },
+        },
+        Counted::Actions(variables, actions) => Indexed {
+            answer: Checked::Accepted,
+            task: Task {
+                variables: variables,
+                actions: actions,
+                starts: action_at,
+                firsts: first_node,
+                nodes: node_at,
+            },
+        },
+    }
+}
+
+// What an action costs in a state, whether or not it applies there: the file's refusals, then 11 for the number, then 12 and 4 for the state.
+pub fn cost(file: &[u8], action: usize, state: &[u8]) -> Costed
+    ensures { λ r. ⌜ costedAnswer r ≡ costTask (now (file .entry)) action (now (state .entry)) ⌝ }
+{
+    let indexed = index_of(file);
+    let answer = indexed.answer;
+    match answer {
+        Checked::Refused(why) => Costed::Refused(why),
+        Checked::Accepted => {
+            let task = indexed.task;
+            cost_in(file, task, action, state)
+        }
+    }
+}
+
+// The same, of a file that is accepted.
+fn cost_in(file: &[u8], task: Task, action: usize, state: &[u8]) -> Costed
+    requires { ⌜ Ready (now file) task ⌝ }
+    ensures { λ r. ⌜ costedAnswer r ≡ costTask (now (file .entry)) action (now (state .entry)) ⌝ }
+{
+    let variables = task.variables;
+    let actions = task.actions;
+    if actions <= action {
+        return Costed::Refused(Refusal::Missing(0));
+    }
+    let last = 1 + variables;
+    match facts::state::check_state(&file[1..last], state) {
+        Checked::Refused(why) => Costed::Refused(why),
+        Checked::Accepted => {
+            let starts = task.starts;
+            let firsts = task.firsts;
+            let nodes = task.nodes;
+            let first = action::first_of(&firsts, action, Task::MAX_NODES);
+            let walked = walk::walk_at(file, starts[action], &nodes[first..], state);
+            Costed::Cost(walked.cost)
+        }
+    }
+}
+
+// The sum of a list of actions: the file's refusals, then 8, then per action 11 before 9, and 10 at the end.
+pub fn run(file: &[u8], list: &[u16]) -> Ran
+    ensures { λ r. ⌜ ranAnswer r ≡ runTask (now (file .entry)) (now (list .entry)) ⌝ }
+{
+    let indexed = index_of(file);
+    let answer = indexed.answer;
+    match answer {
+        Checked::Refused(why) => Ran::Refused(why),
+        Checked::Accepted => {
+            if Task::MAX_LIST < list.len() {
+                return Ran::Refused(Refusal::Long(Task::MAX_LIST));
+            }
+            let task = indexed.task;
+            run_in(file, task, list)
+        }
+    }
+}
+
+// The same, of a file that is accepted and a list within the limit: the run starts from a copy of the initial values.
+fn run_in(file: &[u8], task: Task, list: &[u16]) -> Ran
+    requires { ⌜ Ready (now file) task × (length (now list) ≤ 256) ⌝ }
+    ensures { λ r. ⌜ ranAnswer r ≡ runTask (now (file .entry)) (now (list .entry)) ⌝ }
+{
+    let variables = task.variables;
+    let actions = task.actions;
+    let starts = task.starts;
+    let firsts = task.firsts;
+    let nodes = task.nodes;
+    let init = 1 + variables;
+    let goal = init + variables;
+    let mut state = [0; 24];
+    bytes::copy(&file[init..goal], &mut state[..variables]);
+    action::run_list(
+        file,
+        goal,
+        &starts[..actions],
+        &firsts,
+        &nodes,
+        list,
+        &mut state[..variables],
+    )
+}

@@ -1,0 +1,116 @@
+// Walks in place: the cost of an action in a state.
+use facts::Field;
+ghost use mathlib.Core.Path.{_≡_};
+ghost use Prim.Native.Nat.{_+_, _*_, _≤_, _<_};
+ghost use lib.ListN.{length, getD};
+ghost use Rattle.task.specs.Task.{maxNodes, maxWeight};
+ghost use Rattle.task.specs.WalkInPlace.{weightAt, effectPlace, edgeOf, wayFrom, walkAt, maxWalk, Front};
+
+// A walk: the weights of its edges added up, and the number of nodes that it passes.
+pub struct Walked {
+    pub cost: u32,
+    pub passed: usize,
+}
+
+// An edge: the number of the node that it leads to, and what it costs.
+struct Edge {
+    target: usize,
+    weight: u32,
+}
+
+impl Edge {
+    const BYTES: usize = 3;
+}
+
+// The walk of the action at an offset, whose own nodes begin at the offsets `nodes`.
+pub fn walk_at(file: &[u8], at: usize, nodes: &[usize], state: &[u8]) -> Walked
+    requires { ⌜ Front (now file) at ⌝ }
+    ensures { λ r. ⌜ (r .cost ≡ walkAt (now (file .entry)) at (now (nodes .entry)) (now (state .entry)) .cost) × (r .passed ≡ walkAt (now (file .entry)) at (now (nodes .entry)) (now (state .entry)) .passed) × (r .cost ≤ maxWalk) ⌝ }
+{
+    let incoming = past_partial(file, past_partial(file, at));
+    let count = byte_at(file, incoming + 2);
+    let way = way_up(file, nodes, count, state);
+    let weight = weight_at(file, incoming);
+    Walked {
+        cost: weight + way.cost,
+        passed: way.passed,
+    }
+}
+
+// The walk from node 1 up through a diagram with `count` nodes.
+fn way_up(file: &[u8], nodes: &[usize], count: usize, state: &[u8]) -> Walked
+    requires { ⌜ count ≤ maxNodes ⌝ }
+    ensures { λ r. ⌜ (r .cost ≡ wayFrom (now (file .entry)) (now (nodes .entry)) count (now (state .entry)) 1 .cost) × (r .passed ≡ wayFrom (now (file .entry)) (now (nodes .entry)) count (now (state .entry)) 1 .passed) × (r .cost ≤ maxWeight * count) ⌝ }
+{
+    let mut cost: u32 = 0;
+    let mut passed: usize = 0;
+    let mut k: usize = 1;
+    while k <= count {
+        let edge = edge_at(file, offset_at(nodes, k - 1), state);
+        cost += edge.weight;
+        passed += 1;
+        if edge.target <= k {
+            return Walked { cost, passed };
+        }
+        k = edge.target;
+    }
+    Walked { cost, passed }
+}
+
+// The edge, for the state's value, of the node at an offset.
+fn edge_at(file: &[u8], node: usize, state: &[u8]) -> Edge
+    ensures { λ r. ⌜ (r .target ≡ edgeOf (now (file .entry)) node (now (state .entry)) .target) × (r .weight ≡ edgeOf (now (file .entry)) node (now (state .entry)) .weight) × (r .weight ≤ maxWeight) ⌝ }
+{
+    if file.len() <= node {
+        return Edge {
+            target: 0,
+            weight: 0,
+        };
+    }
+    let at = node + (1 + Edge::BYTES * byte_at(state, byte_at(file, node)));
+    Edge {
+        target: byte_at(file, at),
+        weight: weight_at(file, at + 1),
+    }
+}
+
+// Past the partial state at an offset, as its map stands.
+pub fn past_partial(file: &[u8], at: usize) -> usize
+    requires { ⌜ at ≤ length (now file) + 72 ⌝ }
+    ensures { λ r. ⌜ (r ≡ effectPlace (now (file .entry)) at) × (r ≤ at + 72) ⌝ }
+{
+    match facts::number::read_map(file, at) {
+        Field::Value(map) => at + facts::partial::partial_length(map),
+        Field::Refused(_) => at + 8,
+    }
+}
+
+// The weight at an offset.
+fn weight_at(file: &[u8], at: usize) -> u32
+    ensures { λ r. ⌜ (r ≡ weightAt (now (file .entry)) at) × (r ≤ maxWeight) ⌝ }
+{
+    match facts::number::read_word(file, at) {
+        Field::Value(weight) => weight as u32,
+        Field::Refused(_) => 0,
+    }
+}
+
+// The byte at an index, 0 past the last.
+fn byte_at(bytes: &[u8], at: usize) -> usize
+    ensures { λ r. ⌜ (r ≡ getD (now (bytes .entry)) at 0) × (r < 256) ⌝ }
+{
+    if at < bytes.len() {
+        return bytes[at] as usize;
+    }
+    0
+}
+
+// The offset at an index, 0 past the last.
+pub fn offset_at(offsets: &[usize], at: usize) -> usize
+    ensures { λ r. ⌜ r ≡ getD (now (offsets .entry)) at 0 ⌝ }
+{
+    if at < offsets.len() {
+        return offsets[at];
+    }
+    0
+}
