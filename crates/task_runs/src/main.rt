@@ -7,14 +7,19 @@ use task::Ran;
 fn main() {
     let p =
         b"\x01\x02\x00\x01\x00\x00\x00\x00\x00\x00\x00\x01\x01\x00\x00\x00\x00\x00\x00\x00\x00\x01\x00\x00\x00\x00\x00\x00\x00\x01\x03\x00\x01\x00\x02\x05\x00\x02\x00\x00";
+    // P with another node count, at byte 32
+    let nodes64 =
+        b"\x01\x02\x00\x01\x00\x00\x00\x00\x00\x00\x00\x01\x01\x00\x00\x00\x00\x00\x00\x00\x00\x01\x00\x00\x00\x00\x00\x00\x00\x01\x03\x00\x40\x00\x02\x05\x00\x02\x00\x00";
+    let nodes65 =
+        b"\x01\x02\x00\x01\x00\x00\x00\x00\x00\x00\x00\x01\x01\x00\x00\x00\x00\x00\x00\x00\x00\x01\x00\x00\x00\x00\x00\x00\x00\x01\x03\x00\x41\x00\x02\x05\x00\x02\x00\x00";
     show_check(p);
     show_check(b"");
     show_check(b"\x18");
     show_check(b"\x19");
     show_check(b"\x01\x08");
     show_check(b"\x01\x09");
-    show_nodes(p, 64);
-    show_nodes(p, 65);
+    show_check(nodes64);
+    show_check(nodes65);
     let once: [u16; 1] = [0];
     let none: [u16; 0] = [];
     let missing: [u16; 1] = [1];
@@ -30,13 +35,6 @@ fn main() {
     show_cost(p, 0, b"\x00\x00");
     show_cost(p, 0, b"\x02");
     show_cost(p, 1, b"\x00\x00");
-}
-
-// P with another node count, at byte 32.
-fn show_nodes(p: &[u8; 40], count: u8) {
-    let mut file = *p;
-    file[32] = count;
-    show_check(&file);
 }
 
 fn show_check(file: &[u8]) {
