@@ -1,0 +1,34 @@
+-- Document 01's task P compiled: the probe file of 106 bytes, computed.
+use mathlib.Core.Path.{_≡_, refl}
+use mathlib.Core.List.{[], _∷_}
+use lib.ListN.{length}
+use Rattle.facts.specs.Partial.{empty, writePartial}
+use Rattle.facts.specs.Fields.{writeOperator, writeHead}
+use Rattle.task.specs.Examples.{P}
+use Rattle.probe.specs.ProbeFile.{writeStep, writeProbe}
+use Rattle.probe.specs.Examples.{P-file, P-probe}
+use Rattle.compile.specs.Extend.{extend, clear}
+use Rattle.compile.specs.Compile.{stepsOf, probeOf}
+
+-- Variable 1 at 5 and variable 3 at 7: bits 1 and 3, lowest first.
+two-facts : extend (extend empty 1 5) 3 7 ≡ record { map = 10; values = 5 ∷ 7 ∷ [] }
+two-facts = refl
+
+-- One fact of variable 0, then variables 1 and 2 at 0.
+cleared : clear (extend empty 0 1) 1 2 ≡ record { map = 7; values = 1 ∷ 0 ∷ 0 ∷ [] }
+cleared = refl
+
+-- P's variable, the semaphore and the marker; start, two edges, end.
+P-compiled : probeOf P ≡ P-probe
+unfolding probeOf stepsOf
+P-compiled = refl
+
+-- The bytes that are written are document 01's.
+P-written : writeProbe (probeOf P) ≡ P-file
+unfolding probeOf stepsOf writeProbe writeStep writeOperator writeHead writePartial
+P-written = refl
+
+-- There are 106 of them.
+P-length : length (writeProbe (probeOf P)) ≡ 106
+unfolding probeOf stepsOf writeProbe writeStep writeOperator writeHead writePartial
+P-length = refl
