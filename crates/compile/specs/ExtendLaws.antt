@@ -8,14 +8,8 @@ use lib.Dec.{eqb}
 use lib.ListN.{length, getD, set, length-append}
 use lib.Seq.{append-snoc, getD-append-seam}
 use Rattle.facts.specs.Partial.{Partial, agrees, after, rest, above, holds, apply, empty}
-use Rattle.facts.specs.PartialLaws.{Below, holds-empty, apply-empty}
+use Rattle.facts.specs.PartialLaws.{Has, Below, holds-empty, apply-empty}
 use Rattle.compile.specs.Extend.{extend, clear}
-
--- A standing bit has a value.
-abbrev Has : ℕ → List ℕ → Type 0
-Has zero values = Unit {0}
-Has (suc b) [] = ⊥
-Has (suc b) (v ∷ values) = Unit {0}
 
 -- A test that always passes changes nothing.
 pub and-true : (a : Bool) → (a && true) ≡ a

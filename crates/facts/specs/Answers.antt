@@ -1,5 +1,6 @@
 -- What the answers of the code mean: the value, or the document's number and place of the refusal.
-use Prim.Native.Nat.{ℕ}
+use Prim.Native.Nat.{ℕ, _≤_}
+use mathlib.Core.List.{List}
 use Rattle.facts.specs.declared.Field.{Field}
 use Rattle.facts.specs.declared.Field.the-variants.{Value, Refused as NoValue}
 use Rattle.facts.specs.declared.Past.{Past}
@@ -8,8 +9,13 @@ use Rattle.facts.specs.declared.Checked.{Checked}
 use Rattle.facts.specs.declared.Checked.the-variants.{Accepted, Refused as NotAccepted}
 use Rattle.facts.specs.declared.Headed.{Headed}
 use Rattle.facts.specs.declared.Headed.the-variants.{Head, Refused as NoHead}
+use Rattle.facts.specs.declared.Ran.{Ran}
+use Rattle.facts.specs.declared.Ran.the-variants.{Sum, Refused as NotRan}
+use Rattle.facts.specs.declared.Applied.{Applied}
+use Rattle.facts.specs.declared.Applied.the-variants.{Next as Moved, Blocked}
 use Rattle.facts.specs.Refusal.{number, place}
 use Rattle.facts.specs.Read.{Read, accepted, refused}
+use Rattle.facts.specs.Run.{Move, next, blocked}
 
 -- a number that was read
 abbrev pub fieldAnswer : Field → Read ℕ
@@ -30,3 +36,18 @@ checkedAnswer (NotAccepted why) = refused (number why) (place why)
 abbrev pub headedAnswer : Headed → Read (ℕ × ℕ)
 headedAnswer (Head n at) = accepted (n, at)
 headedAnswer (NoHead why) = refused (number why) (place why)
+
+-- the sum of a run
+abbrev pub ranAnswer : Ran → Read ℕ
+ranAnswer (Sum sum) = accepted sum
+ranAnswer (NotRan why) = refused (number why) (place why)
+
+-- what an action or a step did, with the state that stands beside its answer
+abbrev pub appliedMove : Applied → List ℕ → Move
+appliedMove (Moved cost) s = next s cost
+appliedMove Blocked s = blocked
+
+-- the cost of what applied is at most `most`
+abbrev pub CostMost : ℕ → Applied → Type 0
+CostMost most (Moved cost) = cost ≤ most
+CostMost most Blocked = Unit {0}

@@ -5,7 +5,7 @@ use mathlib.Core.Bool.{Bool, true, _&&_}
 use mathlib.Core.List.{List, [], _∷_, _++_}
 use lib.Dec.{leb, ltb}
 use lib.ListN.{length}
-use Rattle.facts.specs.Read.{Read, accepted, check, withValue, _>>=_}
+use Rattle.facts.specs.Read.{Read, accepted, refused, check, withValue, _>>=_}
 use Rattle.facts.specs.Lists.{upFrom}
 use Rattle.facts.specs.Bytes.{numberAt, bytesOf}
 use Rattle.facts.specs.Partial.{Partial, writePartial}
@@ -50,6 +50,10 @@ module _ (f : List ℕ) where
   readNumber k at = do
     _ ← check (leb (at + k) (length f)) 1 at
     accepted (numberAt k f at)
+
+  -- the two bytes at an offset, 0 where the file ends before
+  unfoldable pub wordAt : ℕ → ℕ
+  wordAt at = elim (readNumber 2 at) [ accepted n ↦ n | refused n p ↦ 0 ]
 
   -- a number of k bytes that passes a test, or refusal `wrong`
   unfoldable pub field : ℕ → (ℕ → Bool) → ℕ → ℕ → Read (ℕ × ℕ)

@@ -1,7 +1,6 @@
 -- Definitions, in document 01's order.
 pub mod Refusal
 pub mod Read
-pub mod Answers
 pub mod Lists
 pub mod Bytes
 pub mod Bits
@@ -10,6 +9,7 @@ pub mod Fields
 pub mod State
 pub mod Write
 pub mod Run
+pub mod Answers
 pub mod WellFormed
 -- Laws.
 pub mod ReadLaws
@@ -19,6 +19,7 @@ pub mod PartialLaws
 pub mod EachLaws
 pub mod FieldLaws
 pub mod PartialReadLaws
+pub mod InPlaceLaws
 pub mod OperatorLaws
 pub mod HeadLaws
 pub mod StateLaws

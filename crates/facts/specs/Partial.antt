@@ -66,3 +66,7 @@ standingAt f map at = record { map = map; values = take (ones map) (drop at f) }
 -- the partial state whose map begins at an offset of the file f, as its bytes stand; no facts where the file ends inside the map
 unfoldable pub partialAt : List ℕ → ℕ → Partial
 partialAt f at = elim (leb (at + 8) (length f)) [ true ↦ standingAt f (numberAt 8 f at) (at + 8) | false ↦ empty ]
+
+-- past the partial state at an offset
+unfoldable pub pastPartial : List ℕ → ℕ → ℕ
+pastPartial f at = at + partialBytes (partialAt f at)

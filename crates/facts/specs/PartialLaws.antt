@@ -48,7 +48,7 @@ apply-inside p (d ∷ sizes) (x ∷ s) h l = (after-inside (p .map % 2) (p .valu
 
 -- ---- facts of variables below k only, with a value for each standing bit and no others
 
-abbrev Has : ℕ → List ℕ → Type 0
+abbrev pub Has : ℕ → List ℕ → Type 0
 Has zero values = Unit {0}
 Has (suc b) [] = ⊥
 Has (suc b) (v ∷ values) = Unit {0}

@@ -99,3 +99,15 @@ pub enum Headed {
     Head(usize, usize),
     Refused(Refusal),
 }
+
+// What a run answers.
+pub enum Ran {
+    Sum(u32),
+    Refused(Refusal),
+}
+
+// What an action or a step answers; the state stands beside it.
+pub enum Applied {
+    Next(u32),
+    Blocked,
+}

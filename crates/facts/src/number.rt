@@ -2,12 +2,12 @@
 use crate::Field;
 use crate::Refusal;
 ghost use mathlib.Core.Path.{_≡_};
-ghost use Prim.Native.Nat.{_+_, _≤_, _<_};
+ghost use Prim.Native.Nat.{_+_, _≤_, _<_, min};
 ghost use lib.Dec.{ltb};
-ghost use lib.ListN.{length};
+ghost use lib.ListN.{length, getD};
 ghost use Rattle.facts.specs.Answers.{fieldAnswer};
 ghost use Rattle.facts.specs.Bytes.{numberAt};
-ghost use Rattle.facts.specs.Fields.{readNumber};
+ghost use Rattle.facts.specs.Fields.{readNumber, wordAt};
 
 // The one-byte number at an offset.
 pub fn read_byte(file: &[u8], at: usize) -> Field
@@ -38,6 +38,47 @@ pub fn read_map(file: &[u8], at: usize) -> Field
         return Field::Refused(Refusal::Ends(at));
     }
     Field::Value(eight(file, at))
+}
+
+// The two-byte number at an offset, 0 where the file ends before.
+pub fn word_at(file: &[u8], at: usize) -> u32
+    ensures { λ r. ⌜ (r ≡ wordAt (now (file .entry)) at) × (r ≤ 65535) ⌝ }
+{
+    match read_word(file, at) {
+        Field::Value(word) => word as u32,
+        Field::Refused(_) => 0,
+    }
+}
+
+// The byte at an index, 0 past the last.
+pub fn byte_at(bytes: &[u8], i: usize) -> u8
+    ensures { λ r. ⌜ r ≡ getD (now (bytes .entry)) i 0 ⌝ }
+{
+    if bytes.len() <= i {
+        return 0;
+    }
+    bytes[i]
+}
+
+// The offset at an index of a list of offsets, 0 past the last.
+pub fn offset_at(offsets: &[usize], i: usize) -> usize
+    ensures { λ r. ⌜ r ≡ getD (now (offsets .entry)) i 0 ⌝ }
+{
+    if offsets.len() <= i {
+        return 0;
+    }
+    offsets[i]
+}
+
+// The offset at an index of a list of offsets, and at most `most`.
+pub fn offset_within(offsets: &[usize], i: usize, most: usize) -> usize
+    ensures { λ r. ⌜ r ≡ min (getD (now (offsets .entry)) i 0) most ⌝ }
+{
+    let offset = offset_at(offsets, i);
+    if offset < most {
+        return offset;
+    }
+    most
 }
 
 // Whether a file ends before or inside the k bytes at an offset.

@@ -11,7 +11,7 @@ ghost use lib.Dec.{leb};
 ghost use lib.ListN.{length};
 ghost use Rattle.facts.specs.Answers.{pastAnswer};
 ghost use Rattle.facts.specs.Bits.{Lowest};
-ghost use Rattle.facts.specs.Partial.{holds, apply, valuePlace, standingAt, partialAt};
+ghost use Rattle.facts.specs.Partial.{holds, apply, partialBytes, valuePlace, standingAt, partialAt};
 ghost use Rattle.facts.specs.Fields.{nextOf, standing, readValue, readValues, readPartial, readOperator};
 
 // The length in bytes of a partial state with this map: "The count of standing bits is the count of value bytes."
@@ -19,6 +19,16 @@ pub fn partial_length(map: u64) -> usize
     ensures { λ r. ⌜ r ≡ 8 + ones map ⌝ }
 {
     8 + (u64::count_ones(map) as usize)
+}
+
+// The length in bytes of the partial state at an offset, as its map stands.
+pub fn length_at(file: &[u8], at: usize) -> usize
+    ensures { λ r. ⌜ (r ≡ partialBytes (partialAt (now (file .entry)) at)) × (r ≤ 72) ⌝ }
+{
+    match read_map(file, at) {
+        Field::Value(map) => partial_length(map),
+        Field::Refused(_) => 8,
+    }
 }
 
 // How far past the map's first byte the value byte of a variable lies whose bit stands in the map.

@@ -1,12 +1,12 @@
 -- Steps in place: what code does that goes over the bytes of an accepted file, without reading it into values.
 use mathlib.Core.Path.{_≡_}
-use Prim.Native.Nat.{ℕ, _+_, _≤_, _<_}
+use Prim.Native.Nat.{ℕ, _≤_, _<_}
 use mathlib.Core.List.{List}
 use lib.ListN.{length, getD}
-use Rattle.facts.specs.Read.{Read, accepted, refused, withValue}
+use Rattle.facts.specs.Read.{Read, accepted, withValue}
 use Rattle.facts.specs.Lists.{At}
-use Rattle.facts.specs.Partial.{partialBytes, partialAt}
-use Rattle.facts.specs.Fields.{nextOf, readNumber}
+use Rattle.facts.specs.Partial.{partialAt, pastPartial}
+use Rattle.facts.specs.Fields.{nextOf, wordAt}
 use Rattle.facts.specs.Run.{Move}
 use Rattle.probe.specs.Probe.{Step, Probe, perform}
 use Rattle.probe.specs.ProbeFile.{readStep, readSteps, readProbe}
@@ -15,20 +15,12 @@ use Rattle.probe.specs.ProbeFile.{readStep, readSteps, readProbe}
 unfoldable pub probeAt : List ℕ → Read (ℕ × ℕ)
 probeAt f = withValue (λ p. (length (p .sizes), length (p .steps))) (readProbe f)
 
--- the two bytes at an offset, 0 where the file ends before
-unfoldable pub costAt : List ℕ → ℕ → ℕ
-costAt f at = elim (readNumber f 2 at) [ accepted n ↦ n | refused n p ↦ 0 ]
-
--- where the effect and the cost of the step at an offset begin
-unfoldable pub effectPlace : List ℕ → ℕ → ℕ
-effectPlace f at = at + partialBytes (partialAt f at)
-
 -- the step at an offset, as its bytes stand
 unfoldable pub stepAt : List ℕ → ℕ → Step
 stepAt f at = record {
   pre = partialAt f at;
-  eff = partialAt f (effectPlace f at);
-  cost = costAt f (effectPlace f (effectPlace f at));
+  eff = partialAt f (pastPartial f at);
+  cost = wordAt f (pastPartial f (pastPartial f at));
 }
 
 -- what step number r does in the state s, where `offsets` has the offset of each step

@@ -2,16 +2,17 @@
 mod index;
 mod step;
 
+use facts::Applied;
 use facts::Checked;
+use facts::Ran;
 use facts::Refusal;
 ghost use mathlib.Core.Path.{_≡_};
 ghost use Prim.Native.Nat.{_+_, _*_, _≤_};
 ghost use lib.ListN.{length, getD, take, drop};
-ghost use Rattle.facts.specs.Answers.{checkedAnswer};
+ghost use Rattle.facts.specs.Answers.{checkedAnswer, ranAnswer};
 ghost use Rattle.facts.specs.Partial.{partialAt};
 ghost use Rattle.facts.specs.Run.{runFrom};
 ghost use Rattle.probe.specs.ProbeFile.{checkProbe, runProbe};
-ghost use Rattle.probe.specs.Answers.{ranAnswer};
 ghost use Rattle.probe.specs.InPlace.{moveAt, Within};
 
 // A probe file: its limits.
@@ -27,22 +28,10 @@ impl Probe {
     pub const MAX_LIST: usize = 6656;
 }
 
-// What a run answers.
-pub enum Ran {
-    Sum(u32),
-    Refused(Refusal),
-}
-
 // How many variables and how many steps an accepted file has.
 pub enum Indexed {
     Steps(usize, usize),
     Refused(Refusal),
-}
-
-// What a step answers; the state stands beside it.
-pub enum Applied {
-    Next(u32),
-    Blocked,
 }
 
 // Whether a probe file is accepted: refusals 1 to 5.

@@ -1,7 +1,7 @@
 // Runs the known cases about probe files (document 01) with the code itself; what it writes is compared with the file stdout.
 use facts::Checked;
+use facts::Ran;
 use facts::Refusal;
-use probe::Ran;
 
 fn main() {
     let file =

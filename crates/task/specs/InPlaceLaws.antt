@@ -1,16 +1,15 @@
 -- Laws of going over the bytes of a diagram: the ways in which reading can go, and that the checks in place are the checks of what was read.
 use mathlib.Core.Path.{_≡_, refl, sym, ap, ap₂, _∙_, subst}
 use Prim.Native.Nat.{ℕ, zero, suc, _+_, _-_, _≤_, _<_}
-use native.Mathlib.Nat.{eq-or-lt-of-le, lt-of-not-le}
+use native.Mathlib.Nat.{lt-of-not-le}
 use native.Mathlib.Decide.{decLe}
 use native.Mathlib.Numerals.{add-one}
-use mathlib.Core.Logic.{inl, inr}
 use native.Mathlib.Omega.{arith}
 use mathlib.Core.Bool.{Bool, true, _&&_}
 use mathlib.Core.List.{List, [], _∷_, _++_, map, append-nil}
 use lib.Dec.{leb, ltb}
-use lib.ListN.{length, getD, set, take, drop, length-append, length-drop, drop-of-length-le, List·getD-append}
-use lib.Seq.{getD-set-same, getD-set-other, getD-take, getD-drop, take-all, drop-at, length-take-le}
+use lib.ListN.{length, getD, take, drop, length-append, length-drop, drop-of-length-le, List·getD-append}
+use lib.Seq.{getD-take, getD-drop, take-all, drop-at, length-take-le}
 use borrow.Rule.Slice.PartMut.{putMid}
 use borrow.Author.Tests.{le-leb, lt-leb, le-ltb, lt-ltb}
 use Rattle.facts.specs.Read.{Read, accepted, refused, check, withValue, _>>=_}
@@ -179,16 +178,6 @@ first-more f sizes m from j h g = rw (add-one j) (next-snoc (readNode f sizes m)
 -- where a node is refused there is nothing to mark
 pub marked-none : (f sizes : List ℕ) (m from : ℕ) (offsets : List ℕ) {n p : ℕ} → nextOf (readNodes f sizes m from) ≡ refused n p → Marked f sizes m from offsets
 marked-none f sizes m from offsets h = record { marks = λ e j l. absurd (not-refused (sym h ∙ e)) }
-
--- one offset more is noted
-pub marks-more : (R : ℕ → Read ℕ) (offsets : List ℕ) (i at : ℕ) → i < length offsets → R i ≡ accepted at → ((j : ℕ) → j < i → R j ≡ accepted (getD offsets j 0))
-    → (j : ℕ) → j < i + 1 → R j ≡ accepted (getD (set offsets i at) j 0)
-marks-more R offsets i at l e h j m =
-    let n : j ≤ i = omega arith in
-    elim (eq-or-lt-of-le n) [
-      | inl q ↦ rw (q, getD-set-same offsets i at 0 l) e
-      | inr k ↦ rw (getD-set-other offsets i j at 0 (λ q. omega arith)) (h j k)
-    ]
 
 -- ---- the checks in place are the checks of what was read
 

@@ -11,7 +11,7 @@ use lib.Seq.{getD-take, take-length}
 use Rattle.facts.specs.Read.{accepted}
 use Rattle.facts.specs.Lists.{total, At, here, there}
 use Rattle.facts.specs.ListLaws.{at-getD, at-length}
-use Rattle.facts.specs.Partial.{Partial, holds, apply, partialAt}
+use Rattle.facts.specs.Partial.{Partial, holds, apply, partialAt, pastPartial}
 use Rattle.facts.specs.State.{Inside}
 use Rattle.facts.specs.Run.{Move, next, blocked, attempt, runFrom}
 use Rattle.facts.specs.RunLaws.{attempt-length, run-same}
@@ -20,13 +20,13 @@ use Rattle.task.specs.TaskFile.{readTask}
 use Rattle.task.specs.InPlace.{Located}
 use Rattle.task.specs.TaskReadLaws.{task-wf, task-limits}
 use Rattle.task.specs.TaskLaws.{move-at, perform-inside}
-use Rattle.task.specs.WalkInPlace.{effectPlace, walkAt, performAt, moveAt, Front, Fronts}
+use Rattle.task.specs.WalkInPlace.{walkAt, performAt, moveAt, Front, Fronts}
 use Rattle.task.specs.WalkInPlaceLaws.{count-is, lies-fits, perform-in-place}
 
 -- ---- what an action in place does
 
 module _ (f : List ℕ) (at : ℕ) (nodes s : List ℕ) where
-  pub performs : {effect cost : ℕ} → effect ≡ effectPlace f at → cost ≡ walkAt f at nodes s .cost → holds (partialAt f at) s ≡ true → next (apply (partialAt f effect) s) cost ≡ performAt f at nodes s
+  pub performs : {effect cost : ℕ} → effect ≡ pastPartial f at → cost ≡ walkAt f at nodes s .cost → holds (partialAt f at) s ≡ true → next (apply (partialAt f effect) s) cost ≡ performAt f at nodes s
   unfolding performAt
   performs e c h = rw (h, attempt, e, c)
 
@@ -56,7 +56,7 @@ module _ (f actions firsts nodes : List ℕ) (a : ℕ) (s : List ℕ) where
   unfolding moveAt performAt
   move-length h =
       let at = getD actions a 0 in
-      attempt-length (partialAt f at) (partialAt f (effectPlace f at)) (walkAt f at (drop (getD firsts a 0) nodes) s .cost) s h
+      attempt-length (partialAt f at) (partialAt f (pastPartial f at)) (walkAt f at (drop (getD firsts a 0) nodes) s .cost) s h
 
 -- ---- an accepted file
 

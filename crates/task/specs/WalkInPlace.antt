@@ -4,28 +4,17 @@ use mathlib.Core.Bool.{true, false}
 use mathlib.Core.List.{List}
 use lib.Dec.{leb, ltb}
 use lib.ListN.{length, getD, drop}
-use Rattle.facts.specs.Read.{accepted, refused}
-use Rattle.facts.specs.Partial.{partialBytes, partialAt}
-use Rattle.facts.specs.Fields.{readNumber}
+use Rattle.facts.specs.Partial.{partialAt, pastPartial}
+use Rattle.facts.specs.Fields.{wordAt}
 use Rattle.facts.specs.Run.{Move, attempt}
-use Rattle.task.specs.declared.Applied.{Applied}
-use Rattle.task.specs.declared.Applied.the-variants.{Next, Blocked}
 use Rattle.task.specs.Task.{Edge, Walk, arrived, along, maxNodes, maxWeight}
 use Rattle.task.specs.TaskFile.{edgeBytes}
 
 -- ---- the parts of an action at an offset
 
--- the two bytes at an offset, 0 where the file ends before
-unfoldable pub weightAt : List ℕ → ℕ → ℕ
-weightAt f at = elim (readNumber f 2 at) [ accepted n ↦ n | refused n p ↦ 0 ]
-
--- where the effect of the action at an offset begins: past the partial state there
-unfoldable pub effectPlace : List ℕ → ℕ → ℕ
-effectPlace f at = at + partialBytes (partialAt f at)
-
--- where its incoming weight stands: past the effect
+-- where the incoming weight of the action at an offset stands: past precondition and effect
 unfoldable pub incomingPlace : List ℕ → ℕ → ℕ
-incomingPlace f at = effectPlace f (effectPlace f at)
+incomingPlace f at = pastPartial f (pastPartial f at)
 
 -- how many nodes it has: the byte after the incoming weight
 unfoldable pub nodeCount : List ℕ → ℕ → ℕ
@@ -37,7 +26,7 @@ nodeCount f at = getD f (incomingPlace f at + 2) 0
 unfoldable pub edgeOf : List ℕ → ℕ → List ℕ → Edge
 edgeOf f node s =
     let at = node + (1 + edgeBytes * getD s (getD f node 0) 0) in
-    record { target = getD f at 0; weight = weightAt f (at + 1) }
+    record { target = getD f at 0; weight = wordAt f (at + 1) }
 
 -- the edge of node k, where `nodes` has the offset of each node from node 1 on
 abbrev pub edgeFrom : List ℕ → List ℕ → List ℕ → ℕ → Edge
@@ -62,22 +51,17 @@ module _ (f nodes : List ℕ) (m : ℕ) (s : List ℕ) where
 unfoldable pub walkAt : List ℕ → ℕ → List ℕ → List ℕ → Walk
 walkAt f at nodes s =
     let w = wayFrom f nodes (nodeCount f at) s 1 in
-    record { cost = weightAt f (incomingPlace f at) + w .cost; passed = w .passed }
+    record { cost = wordAt f (incomingPlace f at) + w .cost; passed = w .passed }
 
 -- one cost, of any 64 nodes: the incoming weight, and an edge's for each node
 abbrev pub maxWalk : ℕ
 maxWalk = maxWeight * suc maxNodes
 
--- the cost of an action that applied is that of a walk
-abbrev pub WalkCost : Applied → Type 0
-WalkCost (Next cost) = cost ≤ maxWalk
-WalkCost Blocked = Unit {0}
-
 -- ---- moves
 
 -- what the action at an offset does in the state s: it costs what its walk in s costs, the state before it
 unfoldable pub performAt : List ℕ → ℕ → List ℕ → List ℕ → Move
-performAt f at nodes s = attempt (partialAt f at) (partialAt f (effectPlace f at)) (walkAt f at nodes s .cost) s
+performAt f at nodes s = attempt (partialAt f at) (partialAt f (pastPartial f at)) (walkAt f at nodes s .cost) s
 
 -- what action number a does in the state s: `actions` has the offset of each action, `firsts` the index of its first node in `nodes`
 unfoldable pub moveAt : List ℕ → List ℕ → List ℕ → List ℕ → ℕ → List ℕ → Move

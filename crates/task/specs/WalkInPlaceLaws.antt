@@ -5,19 +5,17 @@ use native.Mathlib.Nat.{lt-of-not-le}
 use native.Mathlib.Decide.{decLe}
 use native.Mathlib.Omega.{arith}
 use mathlib.Core.List.{List}
-use lib.Count.{ones}
 use lib.ListN.{length, getD, drop, List·getD-eq-default}
 use lib.Seq.{getD-drop}
 use borrow.Author.Tests.{le-leb, lt-leb, le-ltb, lt-ltb}
-use Rattle.facts.specs.Read.{accepted, refused}
 use Rattle.facts.specs.Lists.{At}
 use Rattle.facts.specs.ListLaws.{at-length}
 use Rattle.facts.specs.BytesLaws.{number-one}
-use Rattle.facts.specs.Partial.{Partial, partialBytes, standingAt, partialAt}
-use Rattle.facts.specs.PartialLaws.{partial-here, partial-cut}
+use Rattle.facts.specs.Partial.{pastPartial}
 use Rattle.facts.specs.State.{Inside}
-use Rattle.facts.specs.Fields.{readNumber}
-use Rattle.facts.specs.FieldLaws.{number-ends, number-reads, number-read, number-short, count-read}
+use Rattle.facts.specs.Fields.{wordAt}
+use Rattle.facts.specs.FieldLaws.{number-ends, count-read}
+use Rattle.facts.specs.InPlaceLaws.{word-cut, word-is, past-read}
 use Rattle.facts.specs.OperatorLaws.{Operator-read, operator-read}
 use Rattle.task.specs.Task.{Edge, Node, Action, edgeAt, Walk, arrived, along, walkFrom, walk, perform, WfAction}
 use Rattle.task.specs.TaskFile.{edgeBytes}
@@ -25,47 +23,24 @@ use Rattle.task.specs.InPlace.{Lies}
 use Rattle.task.specs.WalkLaws.{edge-there, edge-wf, walk-node, walk-terminal, walk-induction}
 use Rattle.task.specs.DiagramReadLaws.{Diagram-read, diagram-read, node-read, node-edge}
 use Rattle.task.specs.TaskReadLaws.{Action-read, action-read, action-wf}
-use Rattle.task.specs.WalkInPlace.{weightAt, effectPlace, incomingPlace, nodeCount, edgeOf, edgeFrom, onward, wayUp, wayFrom, walkAt, performAt}
-
--- ---- fields of the file f
-
-module _ (f : List ℕ) (at : ℕ) where
-  pub weight-here : {n : ℕ} → readNumber f 2 at ≡ accepted n → weightAt f at ≡ n
-  unfolding weightAt
-  weight-here h = rw (h, weightAt)
-
-  pub weight-cut : {n p : ℕ} → readNumber f 2 at ≡ refused n p → weightAt f at ≡ 0
-  unfolding weightAt
-  weight-cut h = rw (h, weightAt)
-
-  pub place-read : {map : ℕ} → readNumber f 8 at ≡ accepted map → effectPlace f at ≡ at + (8 + ones map)
-  unfolding effectPlace standingAt
-  place-read h = let n = number-read f 8 at h in rw (partial-here f at (n .fits), n .value)
-
-  pub place-cut : {n p : ℕ} → readNumber f 8 at ≡ refused n p → effectPlace f at ≡ at + 8
-  unfolding effectPlace ones
-  place-cut h = rw (partial-cut f at (number-short f 8 at h))
-
-  place-is : {p : Partial} {e : ℕ} → p ≡ partialAt f at → e ≡ at + (8 + ones (p .map)) → effectPlace f at ≡ e
-  unfolding effectPlace
-  place-is p n = ap (λ (x : Partial). at + partialBytes x) (sym p) ∙ sym n
+use Rattle.task.specs.WalkInPlace.{incomingPlace, nodeCount, edgeOf, edgeFrom, onward, wayUp, wayFrom, walkAt, performAt}
 
 -- ---- the edge of the node at an offset
 
 module _ (f : List ℕ) (node : ℕ) (s : List ℕ) where
-  pub edge-is : {v d at target weight : ℕ} → v ≡ getD f node 0 → d ≡ getD s v 0 → at ≡ node + (1 + edgeBytes * d) → target ≡ getD f at 0 → weight ≡ weightAt f (at + 1)
+  pub edge-is : {v d at target weight : ℕ} → v ≡ getD f node 0 → d ≡ getD s v 0 → at ≡ node + (1 + edgeBytes * d) → target ≡ getD f at 0 → weight ≡ wordAt f (at + 1)
       → (target ≡ edgeOf f node s .target) × (weight ≡ edgeOf f node s .weight)
   unfolding edgeOf
   edge-is {at = at} a b c t w =
       let place : at ≡ node + (1 + edgeBytes * getD s (getD f node 0) 0) = c ∙ ap (λ (d : ℕ). node + (1 + edgeBytes * d)) (b ∙ ap (λ (v : ℕ). getD s v 0) a) in
-      (t ∙ ap (λ (p : ℕ). getD f p 0) place, w ∙ ap (λ (p : ℕ). weightAt f (p + 1)) place)
+      (t ∙ ap (λ (p : ℕ). getD f p 0) place, w ∙ ap (λ (p : ℕ). wordAt f (p + 1)) place)
 
   -- past the end of the file there is nothing
   pub edge-none : length f ≤ node → (0 ≡ edgeOf f node s .target) × (0 ≡ edgeOf f node s .weight)
   unfolding edgeOf
   edge-none h =
       let at = node + (1 + edgeBytes * getD s (getD f node 0) 0) in
-      (sym (List·getD-eq-default f 0 (omega arith)), sym (weight-cut f (at + 1) (number-ends f 2 (at + 1) (omega arith))))
+      (sym (List·getD-eq-default f 0 (omega arith)), sym (word-cut f (at + 1) (number-ends f 2 (at + 1) (omega arith))))
 
 -- ---- the walk through m nodes that begin at these offsets
 
@@ -142,16 +117,16 @@ module _ (f nodes : List ℕ) (m : ℕ) (s : List ℕ) where
 
 -- ---- a walk in place, part by part
 
-module _ (f : List ℕ) (at : ℕ) (nodes s : List ℕ) {effect incoming count : ℕ} (e : effect ≡ effectPlace f at) (i : incoming ≡ effectPlace f effect) (n : count ≡ getD f (incoming + 2) 0) where
+module _ (f : List ℕ) (at : ℕ) (nodes s : List ℕ) {effect incoming count : ℕ} (e : effect ≡ pastPartial f at) (i : incoming ≡ pastPartial f effect) (n : count ≡ getD f (incoming + 2) 0) where
   place-same : incoming ≡ incomingPlace f at
   unfolding incomingPlace
-  place-same = i ∙ ap (effectPlace f) e
+  place-same = i ∙ ap (pastPartial f) e
 
   pub count-same : count ≡ nodeCount f at
   unfolding nodeCount
   count-same = n ∙ ap (λ (p : ℕ). getD f (p + 2) 0) place-same
 
-  pub cost-is : {weight cost : ℕ} → weight ≡ weightAt f incoming → cost ≡ wayFrom f nodes count s 1 .cost → weight + cost ≡ walkAt f at nodes s .cost
+  pub cost-is : {weight cost : ℕ} → weight ≡ wordAt f incoming → cost ≡ wayFrom f nodes count s 1 .cost → weight + cost ≡ walkAt f at nodes s .cost
   unfolding walkAt
   cost-is w c = rw (← place-same, ← count-same, w, c)
 
@@ -171,12 +146,12 @@ module _ (f : List ℕ) {sizes : List ℕ} {x : Action} {at first : ℕ} {all : 
   d : Diagram-read f sizes (l .left) (a .place) (x .nodes) (l .next)
   d = diagram-read f sizes (l .left) (a .place) (a .diagram-is)
 
-  effect-is : effectPlace f at ≡ o .effect
-  effect-is = place-is f at (o .pre .same) (o .pre .next)
+  effect-is : pastPartial f at ≡ o .effect
+  effect-is = past-read f at (o .pre .same) (o .pre .next)
 
   incoming-is : incomingPlace f at ≡ o .place
   unfolding incomingPlace
-  incoming-is = ap (effectPlace f) effect-is ∙ place-is f (o .effect) (o .eff .same) (o .eff .next)
+  incoming-is = ap (pastPartial f) effect-is ∙ past-read f (o .effect) (o .eff .same) (o .eff .next)
 
   pub count-is : nodeCount f at ≡ length (x .nodes)
   unfolding nodeCount
@@ -188,8 +163,8 @@ module _ (f : List ℕ) {sizes : List ℕ} {x : Action} {at first : ℕ} {all : 
   pub lies-fits : at ≤ length f
   lies-fits = omega (arith, o .pre .next, o .pre .fits)
 
-  weight-is : weightAt f (incomingPlace f at) ≡ x .incoming
-  weight-is = rw incoming-is (weight-here f (o .place) (number-reads f 2 (o .place) (o .weight .fits)) ∙ o .weight .value)
+  weight-is : wordAt f (incomingPlace f at) ≡ x .incoming
+  weight-is = rw incoming-is (word-is f (o .place) (o .weight .fits) (o .weight .value))
 
   module _ (s : List ℕ) (inside : Inside sizes s) where
     abbrev nodes : List ℕ
@@ -212,7 +187,7 @@ module _ (f : List ℕ) {sizes : List ℕ} {x : Action} {at first : ℕ} {all : 
         let place : getD nodes (suc j - 1) 0 ≡ node = ap (λ (i : ℕ). getD nodes i 0) k ∙ getD-drop first all j 0 in
         let var : nd .var ≡ getD f node 0 = sym (n .var .value) ∙ number-one f node (omega (arith, n .var .fits)) in
         let t : edgeAt nd s .target ≡ getD f at 0 = sym (e .target) ∙ number-one f at (omega (arith, e .fits)) in
-        let w : edgeAt nd s .weight ≡ weightAt f (at + 1) = sym (weight-here f (at + 1) (number-reads f 2 (at + 1) (omega (arith, e .fits))) ∙ e .weight) in
+        let w : edgeAt nd s .weight ≡ wordAt f (at + 1) = sym (word-is f (at + 1) (omega (arith, e .fits)) (e .weight)) in
         let q = edge-is f node s var refl refl t w in
         ap (λ (p : ℕ). edgeOf f p s) place ∙ (λ i. record { target = sym (q .0) i; weight = sym (q .1) i })
 

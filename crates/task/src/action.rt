@@ -1,42 +1,31 @@
 // Actions in place: one applied, and a list of them run.
-use crate::Applied;
-use crate::Ran;
-use crate::walk::offset_at;
-use crate::walk::past_partial;
 use crate::walk::walk_at;
+use facts::Applied;
+use facts::Ran;
 use facts::Refusal;
+use facts::number::offset_within;
+use facts::partial::length_at;
 ghost use mathlib.Core.Path.{_≡_};
-ghost use Prim.Native.Nat.{_≤_, min};
-ghost use lib.ListN.{length, getD};
+ghost use Prim.Native.Nat.{_≤_};
+ghost use lib.ListN.{length};
 ghost use Rattle.facts.specs.Partial.{partialAt};
 ghost use Rattle.facts.specs.Run.{runFrom};
 ghost use Rattle.task.specs.Task.{maxList};
-ghost use Rattle.task.specs.Answers.{appliedMove, ranAnswer};
-ghost use Rattle.task.specs.WalkInPlace.{performAt, moveAt, WalkCost, Front, Fronts};
+ghost use Rattle.facts.specs.Answers.{ranAnswer, appliedMove, CostMost};
+ghost use Rattle.task.specs.WalkInPlace.{maxWalk, performAt, moveAt, Front, Fronts};
 
 // Does the action at an offset: where its precondition holds, its effect is set in the state, and it costs what its walk costs in the state before.
 pub fn apply_action(file: &[u8], at: usize, nodes: &[usize], state: &mut [u8]) -> Applied
     requires { ⌜ Front (now file) at ⌝ }
     ensures { λ r. ⌜ appliedMove r (now (state .exit)) ≡ performAt (now (file .entry)) at (now (nodes .entry)) (now (state .entry)) ⌝ }
-    ensures { λ r. ⌜ WalkCost r ⌝ }
+    ensures { λ r. ⌜ CostMost maxWalk r ⌝ }
 {
     if facts::partial::holds_at(file, at, state) {
         let walked = walk_at(file, at, nodes, state);
-        facts::partial::apply_at(file, past_partial(file, at), state);
+        facts::partial::apply_at(file, at + length_at(file, at), state);
         return Applied::Next(walked.cost);
     }
     Applied::Blocked
-}
-
-// The index of an action's first node, and at most `most`.
-pub fn first_of(first_node: &[usize], number: usize, most: usize) -> usize
-    ensures { λ r. ⌜ r ≡ min (getD (now («first_node» .entry)) number 0) most ⌝ }
-{
-    let first = offset_at(first_node, number);
-    if first < most {
-        return first;
-    }
-    most
 }
 
 // Runs a list from a state: `action_at` has the offset of each action, `first_node` the index of its first node in `node_at`, and the goal starts at `goal`.
@@ -59,7 +48,7 @@ pub fn run_list(
         if action_at.len() <= number {
             return Ran::Refused(Refusal::Missing(i));
         }
-        let first = first_of(first_node, number, node_at.len());
+        let first = offset_within(first_node, number, node_at.len());
         let answer = apply_action(file, action_at[number], &node_at[first..], state);
         let Applied::Next(cost) = answer else {
             return Ran::Refused(Refusal::Blocked(i));

@@ -5,6 +5,8 @@ use facts::Checked;
 use facts::Field;
 use facts::Past;
 use facts::Refusal;
+use facts::number::byte_at;
+use facts::number::offset_at;
 ghost use mathlib.Core.Path.{_≡_};
 ghost use Prim.Native.Nat.{ℕ, _-_, _≤_, _<_};
 ghost use lib.ListN.{length, getD};
@@ -13,9 +15,6 @@ ghost use Rattle.facts.specs.Fields.{nextOf};
 ghost use Rattle.task.specs.TaskFile.{readTarget, readEdge, readEdges, readNode, readNodes};
 ghost use Rattle.task.specs.Answers.{drawnAnswer};
 ghost use Rattle.task.specs.InPlace.{levelAt, targetsRise, nodesRise, Marked, diagramAt, Placed};
-
-// The most nodes of all actions together.
-const MAX_NODES: usize = 64;
 
 // The bytes of a weight.
 const WEIGHT_BYTES: usize = 2;
@@ -206,24 +205,4 @@ fn previous(k: usize) -> usize
         return 0;
     }
     k - 1
-}
-
-// The byte at an index, and past the last one 0.
-fn byte_at(bytes: &[u8], i: usize) -> u8
-    ensures { λ r. ⌜ r ≡ getD (now (bytes .entry)) i 0 ⌝ }
-{
-    if bytes.len() <= i {
-        return 0;
-    }
-    bytes[i]
-}
-
-// The offset at an index, and past the last one 0.
-fn offset_at(offsets: &[usize], i: usize) -> usize
-    ensures { λ r. ⌜ r ≡ getD (now (offsets .entry)) i 0 ⌝ }
-{
-    if offsets.len() <= i {
-        return 0;
-    }
-    offsets[i]
 }

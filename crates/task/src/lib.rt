@@ -5,15 +5,15 @@ mod index;
 mod walk;
 
 use facts::Checked;
+use facts::Ran;
 use facts::Refusal;
+use facts::number::offset_within;
 ghost use mathlib.Core.Path.{_≡_};
-ghost use Prim.Native.Nat.{_+_, _*_, _≤_};
-ghost use lib.ListN.{length, take, drop};
-ghost use Rattle.facts.specs.Read.{accepted};
-ghost use Rattle.facts.specs.Answers.{checkedAnswer};
+ghost use Prim.Native.Nat.{_≤_};
+ghost use lib.ListN.{length};
+ghost use Rattle.facts.specs.Answers.{checkedAnswer, ranAnswer};
 ghost use Rattle.task.specs.TaskFile.{checkTask, costTask, runTask};
-ghost use Rattle.task.specs.Answers.{costedAnswer, ranAnswer};
-ghost use Rattle.task.specs.InPlace.{taskAt, Located};
+ghost use Rattle.task.specs.Answers.{costedAnswer};
 ghost use Rattle.task.specs.Index.{IndexOf, Ready};
 
 // Where the parts of an accepted task file stand: how many variables and actions it has, where each action starts, which of all nodes is its first, and where each node starts.
@@ -61,18 +61,6 @@ pub enum Counted {
 pub enum Costed {
     Cost(u32),
     Refused(Refusal),
-}
-
-// What a run answers.
-pub enum Ran {
-    Sum(u32),
-    Refused(Refusal),
-}
-
-// What an action answers; the state stands beside it.
-pub enum Applied {
-    Next(u32),
-    Blocked,
 }
 
 // Whether a task file is accepted: refusals 1 to 6.
@@ -147,7 +135,7 @@ fn cost_in(file: &[u8], task: Task, action: usize, state: &[u8]) -> Costed
             let starts = task.starts;
             let firsts = task.firsts;
             let nodes = task.nodes;
-            let first = action::first_of(&firsts, action, Task::MAX_NODES);
+            let first = offset_within(&firsts, action, Task::MAX_NODES);
             let walked = walk::walk_at(file, starts[action], &nodes[first..], state);
             Costed::Cost(walked.cost)
         }

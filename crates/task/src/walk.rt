@@ -1,10 +1,12 @@
 // Walks in place: the cost of an action in a state.
-use facts::Field;
+use facts::number::byte_at;
+use facts::number::offset_at;
+use facts::number::word_at;
+use facts::partial::length_at;
 ghost use mathlib.Core.Path.{_≡_};
-ghost use Prim.Native.Nat.{_+_, _*_, _≤_, _<_};
-ghost use lib.ListN.{length, getD};
+ghost use Prim.Native.Nat.{_*_, _≤_};
 ghost use Rattle.task.specs.Task.{maxNodes, maxWeight};
-ghost use Rattle.task.specs.WalkInPlace.{weightAt, effectPlace, edgeOf, wayFrom, walkAt, maxWalk, Front};
+ghost use Rattle.task.specs.WalkInPlace.{edgeOf, wayFrom, walkAt, maxWalk, Front};
 
 // A walk: the weights of its edges added up, and the number of nodes that it passes.
 pub struct Walked {
@@ -27,10 +29,11 @@ pub fn walk_at(file: &[u8], at: usize, nodes: &[usize], state: &[u8]) -> Walked
     requires { ⌜ Front (now file) at ⌝ }
     ensures { λ r. ⌜ (r .cost ≡ walkAt (now (file .entry)) at (now (nodes .entry)) (now (state .entry)) .cost) × (r .passed ≡ walkAt (now (file .entry)) at (now (nodes .entry)) (now (state .entry)) .passed) × (r .cost ≤ maxWalk) ⌝ }
 {
-    let incoming = past_partial(file, past_partial(file, at));
-    let count = byte_at(file, incoming + 2);
+    let effect = at + length_at(file, at);
+    let incoming = effect + length_at(file, effect);
+    let count = byte_at(file, incoming + 2) as usize;
     let way = way_up(file, nodes, count, state);
-    let weight = weight_at(file, incoming);
+    let weight = word_at(file, incoming);
     Walked {
         cost: weight + way.cost,
         passed: way.passed,
@@ -67,50 +70,11 @@ fn edge_at(file: &[u8], node: usize, state: &[u8]) -> Edge
             weight: 0,
         };
     }
-    let at = node + (1 + Edge::BYTES * byte_at(state, byte_at(file, node)));
+    let variable = byte_at(file, node) as usize;
+    let value = byte_at(state, variable) as usize;
+    let at = node + (1 + Edge::BYTES * value);
     Edge {
-        target: byte_at(file, at),
-        weight: weight_at(file, at + 1),
+        target: byte_at(file, at) as usize,
+        weight: word_at(file, at + 1),
     }
-}
-
-// Past the partial state at an offset, as its map stands.
-pub fn past_partial(file: &[u8], at: usize) -> usize
-    requires { ⌜ at ≤ length (now file) + 72 ⌝ }
-    ensures { λ r. ⌜ (r ≡ effectPlace (now (file .entry)) at) × (r ≤ at + 72) ⌝ }
-{
-    match facts::number::read_map(file, at) {
-        Field::Value(map) => at + facts::partial::partial_length(map),
-        Field::Refused(_) => at + 8,
-    }
-}
-
-// The weight at an offset.
-fn weight_at(file: &[u8], at: usize) -> u32
-    ensures { λ r. ⌜ (r ≡ weightAt (now (file .entry)) at) × (r ≤ maxWeight) ⌝ }
-{
-    match facts::number::read_word(file, at) {
-        Field::Value(weight) => weight as u32,
-        Field::Refused(_) => 0,
-    }
-}
-
-// The byte at an index, 0 past the last.
-fn byte_at(bytes: &[u8], at: usize) -> usize
-    ensures { λ r. ⌜ (r ≡ getD (now (bytes .entry)) at 0) × (r < 256) ⌝ }
-{
-    if at < bytes.len() {
-        return bytes[at] as usize;
-    }
-    0
-}
-
-// The offset at an index, 0 past the last.
-pub fn offset_at(offsets: &[usize], at: usize) -> usize
-    ensures { λ r. ⌜ r ≡ getD (now (offsets .entry)) at 0 ⌝ }
-{
-    if at < offsets.len() {
-        return offsets[at];
-    }
-    0
 }

@@ -1,8 +1,8 @@
 // Runs the known cases about tasks (document 01) with the code itself; what it writes is compared with the file stdout.
 use facts::Checked;
+use facts::Ran;
 use facts::Refusal;
 use task::Costed;
-use task::Ran;
 
 fn main() {
     let p =

@@ -8,8 +8,8 @@ use lib.ListN.{length, drop, getD}
 use Rattle.facts.specs.Partial.{partialAt}
 use Rattle.facts.specs.Run.{runFrom}
 use Rattle.facts.specs.RunLaws.{attempt-length, run-missing, run-blocked, run-next, run-unmet, run-met}
-use Rattle.probe.specs.declared.Applied.{Applied}
-use Rattle.probe.specs.Answers.{appliedMove, SmallCost}
+use Rattle.facts.specs.declared.Applied.{Applied}
+use Rattle.facts.specs.Answers.{appliedMove, CostMost}
 use Rattle.probe.specs.InPlace.{moveAt}
 use borrow.Author.Needs.{needs}
 use native.Mathlib.Omega.{arith}
@@ -37,7 +37,7 @@ unfolding moveAt
 did c = c .apply-step .ensures .0
 
 small : (c : tie.After-answer Inv-loop μ-loop) → c .answer .given .0 .0 ≤ 65535
-small c = subst SmallCost (c .answer .given .1) (c .before .before .before .before .apply-step .ensures .1)
+small c = subst (CostMost 65535) (c .answer .given .1) (c .before .before .before .before .apply-step .ensures .1)
 
 returns : tie.Need-returns Inv-loop μ-loop
 returns c = let l = c .before .before .before .loop in let a = c .before .before .before .before .before .before .before .before .args in sym (l .inv .3 ∙ run-missing (length (now (a .offsets))) (moveAt (now (a .file)) (now (a .offsets))) (partialAt (now (a .file)) (a .goal)) (now (a .list)) (l .state) (l .i) (l .sum) (c .before .before .loop-test .taken) (c .if1 .taken))

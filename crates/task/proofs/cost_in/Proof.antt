@@ -3,7 +3,7 @@ use Prim.Native.Nat.{ℕ, _+_, _-_, min}
 use mathlib.Core.Path.{_≡_, sym, ap, _∙_}
 use mathlib.Core.List.{List}
 use denote.Ref.{now}
-use lib.ListN.{getD, take, drop, length}
+use lib.ListN.{getD, take, drop}
 use Rattle.facts.specs.Read.{accepted}
 use Rattle.facts.specs.Answers.{checkedAnswer}
 use Rattle.task.specs.WalkInPlace.{walkAt}
@@ -19,8 +19,8 @@ same : (c : tie.Start) → 1 + c .args .task .variables - 1 ≡ c .args .task .v
 same c = omega arith
 
 -- the nodes from the action's first on
-own : (c : tie.After-first-of) → let t = c .before .before .before .before .before .before .before .before .before .before .before .before .args .task in take (64 - c .first-of .result) (drop (c .first-of .result) (t .nodes)) ≡ drop (getD (t .firsts) (c .before .before .before .before .before .before .before .before .before .before .before .before .args .action) 0) (t .nodes)
-own c = let t = c .before .before .before .before .before .before .before .before .before .before .before .before .args .task in ap (λ (k : ℕ). take (k - c .first-of .result) (drop (c .first-of .result) (t .nodes))) (sym (c .before .before .before .before .before .before .before .before .before .before .before .before .pre .nodes-long)) ∙ own-nodes (t .nodes) (getD (t .firsts) (c .before .before .before .before .before .before .before .before .before .before .before .before .args .action) 0) (c .first-of .ensures ∙ ap (λ (k : ℕ). min (getD (t .firsts) (c .before .before .before .before .before .before .before .before .before .before .before .before .args .action) 0) k) (sym (c .before .before .before .before .before .before .before .before .before .before .before .before .pre .nodes-long)))
+own : (c : tie.After-offset-within) → let t = c .before .before .before .before .before .before .before .before .before .before .before .before .args .task in take (64 - c .offset-within .result) (drop (c .offset-within .result) (t .nodes)) ≡ drop (getD (t .firsts) (c .before .before .before .before .before .before .before .before .before .before .before .before .args .action) 0) (t .nodes)
+own c = let t = c .before .before .before .before .before .before .before .before .before .before .before .before .args .task in ap (λ (k : ℕ). take (k - c .offset-within .result) (drop (c .offset-within .result) (t .nodes))) (sym (c .before .before .before .before .before .before .before .before .before .before .before .before .pre .nodes-long)) ∙ own-nodes (t .nodes) (getD (t .firsts) (c .before .before .before .before .before .before .before .before .before .before .before .before .args .action) 0) (c .offset-within .ensures ∙ ap (λ (k : ℕ). min (getD (t .firsts) (c .before .before .before .before .before .before .before .before .before .before .before .before .args .action) 0) k) (sym (c .before .before .before .before .before .before .before .before .before .before .before .before .pre .nodes-long)))
 
 returns : tie.Need-returns
 returns c = let s = c .before .before .before in sym (cost-missing (now (s .args .file)) (s .pre) (s .args .action) (now (s .args .state)) (c .if1 .taken))

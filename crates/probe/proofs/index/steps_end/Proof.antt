@@ -11,7 +11,8 @@ use Rattle.facts.specs.Answers.{pastAnswer}
 use Rattle.facts.specs.Fields.{nextOf, each}
 use Rattle.facts.specs.EachLaws.{each-on, each-stops, each-done}
 use Rattle.probe.specs.ProbeFile.{readStep, readSteps}
-use Rattle.probe.specs.InPlaceLaws.{next-step, steps-more, marked-none, marks-more}
+use Rattle.facts.specs.InPlaceLaws.{marks-more}
+use Rattle.probe.specs.InPlaceLaws.{next-step, steps-more, marked-none}
 use borrow.Author.Needs.{needs}
 use native.Mathlib.Omega.{arith}
 use Rattle.probe.proofs.index.steps_end.Statement.{statement}

@@ -5,6 +5,7 @@ use mathlib.Core.Path.{sym, ap, _∙_}
 use mathlib.Core.List.{List}
 use denote.Ref.{now}
 use Rattle.facts.specs.Run.{next}
+use Rattle.facts.specs.InPlaceLaws.{past-is}
 use Rattle.task.specs.MoveInPlaceLaws.{performs, performs-not}
 use borrow.Author.Needs.{needs}
 use Rattle.task.proofs.action.apply_action.Statement.{statement}
@@ -15,7 +16,7 @@ returns c =
     let a = c .before .before .before .before .before .before .before .before .before .before .before .before .before .args in
     let w = c .before .before .before .before .before .walk-at in (
       ap (λ (s : List ℕ). next s (w .result .cost)) (c .before .before .apply-at .ensures)
-          ∙ performs (now (a .file)) (a .at) (now (a .nodes)) (now (a .state)) (c .before .before .before .before .past-partial .ensures .0) (w .ensures .0) (sym (c .before .before .before .before .before .before .before .before .holds-at .ensures) ∙ c .before .before .before .before .before .before .before .if1 .taken),
+          ∙ performs (now (a .file)) (a .at) (now (a .nodes)) (now (a .state)) (past-is (now (a .file)) (a .at) (c .before .before .before .before .length-at .ensures .0)) (w .ensures .0) (sym (c .before .before .before .before .before .before .before .before .holds-at .ensures) ∙ c .before .before .before .before .before .before .before .if1 .taken),
       w .ensures .2,
     )
 
@@ -31,6 +32,7 @@ apply-action-spec =
     (λ c κs. search needs)
     (λ c κs. search needs)
     (λ c κs. search needs)
+    (λ c. search needs)
     (λ c κs. search needs)
     (λ c. search needs)
     returns

@@ -8,9 +8,9 @@ use lib.ListN.{length, drop, getD}
 use Rattle.facts.specs.Partial.{partialAt}
 use Rattle.facts.specs.Run.{runFrom}
 use Rattle.facts.specs.RunLaws.{run-missing, run-blocked, run-next, run-unmet, run-met}
-use Rattle.task.specs.declared.Applied.{Applied}
-use Rattle.task.specs.Answers.{appliedMove}
-use Rattle.task.specs.WalkInPlace.{moveAt, WalkCost, maxWalk}
+use Rattle.facts.specs.declared.Applied.{Applied}
+use Rattle.facts.specs.Answers.{appliedMove, CostMost}
+use Rattle.task.specs.WalkInPlace.{moveAt, maxWalk}
 use Rattle.task.specs.MoveInPlaceLaws.{moves, move-length}
 use borrow.Author.Needs.{needs}
 use native.Mathlib.Omega.{arith}
@@ -37,10 +37,10 @@ did : (c : tie.After-apply-action Inv-loop μ-loop) → let a = c .before .befor
 did c =
     let a = c .before .before .before .before .before .before .before .before .before .before .before .before .before .before .before .args in
     let l = c .before .before .before .before .before .before .before .before .loop in
-    moves (now (a .file)) (now (a .action-at)) (now (a .first-node)) (now (a .node-at)) (getD (now (a .list)) (l .i) 0) (l .state) (c .before .before .before .before .first-of .ensures) (c .apply-action .ensures .0)
+    moves (now (a .file)) (now (a .action-at)) (now (a .first-node)) (now (a .node-at)) (getD (now (a .list)) (l .i) 0) (l .state) (c .before .before .before .before .offset-within .ensures) (c .apply-action .ensures .0)
 
 small : (c : tie.After-answer Inv-loop μ-loop) → c .answer .given .0 .0 ≤ maxWalk
-small c = subst WalkCost (c .answer .given .1) (c .before .before .before .before .apply-action .ensures .1)
+small c = subst (CostMost maxWalk) (c .answer .given .1) (c .before .before .before .before .apply-action .ensures .1)
 
 returns : tie.Need-returns Inv-loop μ-loop
 returns c =
@@ -102,9 +102,9 @@ run-list-spec =
     (λ c. search needs)
     (λ c. omega arith)
     (λ c. search needs)
-    (λ c. omega (arith, c .before .first-of .ensures))
-    (λ c. omega (arith, c .before .first-of .ensures))
-    (λ c. omega (arith, c .before .first-of .ensures))
+    (λ c. omega (arith, c .before .offset-within .ensures))
+    (λ c. omega (arith, c .before .offset-within .ensures))
+    (λ c. omega (arith, c .before .offset-within .ensures))
     apply-action-requires
     (λ c. search needs)
     (λ c. search needs)

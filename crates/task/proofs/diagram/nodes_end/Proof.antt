@@ -10,9 +10,10 @@ use Rattle.facts.specs.ListLaws.{length-upFrom}
 use Rattle.facts.specs.Answers.{pastAnswer}
 use Rattle.facts.specs.Fields.{nextOf, each}
 use Rattle.facts.specs.EachLaws.{each-done}
+use Rattle.facts.specs.InPlaceLaws.{marks-more}
 use Rattle.task.specs.TaskFile.{readNode, readNodes}
 use Rattle.task.specs.InPlace.{readFirst}
-use Rattle.task.specs.InPlaceLaws.{left-on, left-stops, first-more, marked-none, marks-more}
+use Rattle.task.specs.InPlaceLaws.{left-on, left-stops, first-more, marked-none}
 use borrow.Author.Needs.{needs}
 use native.Mathlib.Omega.{arith}
 use Rattle.task.proofs.diagram.nodes_end.Statement.{statement}

@@ -16,8 +16,8 @@ returns c =
 returns-2 : tie.Need-returns-2
 returns-2 c =
     let a = c .before .before .before .before .before .before .before .args in
-    let e = edge-is (now (a .file)) (a .node) (now (a .state)) (c .before .before .before .byte-at .ensures .0) (c .before .before .byte-at2 .ensures .0) refl (c .before .byte-at3 .ensures .0) (c .weight-at .ensures .0) in
-    (e .0, e .1, c .weight-at .ensures .1)
+    let e = edge-is (now (a .file)) (a .node) (now (a .state)) (c .before .before .before .byte-at .ensures) (c .before .before .byte-at2 .ensures) refl (c .before .byte-at3 .ensures) (c .word-at .ensures .0) in
+    (e .0, e .1, c .word-at .ensures .1)
 
 pub edge-at-spec : {M : Type 1} → statement M
 edge-at-spec =
@@ -25,11 +25,14 @@ edge-at-spec =
     (tie.spec
     returns
     (λ c κs. search needs)
-    (λ c κs. search needs)
-    (λ c. search needs)
-    (λ c. search needs)
     (λ c. search needs)
     (λ c κs. search needs)
+    (λ c. search needs)
+    (λ c. search needs)
+    (λ c. search needs)
+    (λ c. search needs)
+    (λ c κs. search needs)
+    (λ c. search needs)
     (λ c. search needs)
     (λ c κs. search needs)
     returns-2)

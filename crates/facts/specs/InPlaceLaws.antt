@@ -1,0 +1,54 @@
+-- Laws of numbers and partial states in place, by what reading them says.
+use mathlib.Core.Path.{_≡_, sym, ap, _∙_}
+use Prim.Native.Nat.{ℕ, _+_, _≤_, _<_}
+use native.Mathlib.Nat.{eq-or-lt-of-le}
+use native.Mathlib.Omega.{arith}
+use mathlib.Core.Logic.{inl, inr}
+use mathlib.Core.List.{List}
+use lib.Count.{ones}
+use lib.ListN.{length, getD, set}
+use lib.Seq.{getD-set-same, getD-set-other}
+use Rattle.facts.specs.Read.{Read, accepted, refused}
+use Rattle.facts.specs.Bytes.{numberAt}
+use Rattle.facts.specs.Partial.{Partial, partialBytes, standingAt, partialAt, pastPartial}
+use Rattle.facts.specs.PartialLaws.{partial-here, partial-cut}
+use Rattle.facts.specs.Fields.{readNumber, wordAt}
+use Rattle.facts.specs.FieldLaws.{number-reads, number-read, number-short}
+
+module _ (f : List ℕ) (at : ℕ) where
+  pub word-here : {n : ℕ} → readNumber f 2 at ≡ accepted n → wordAt f at ≡ n
+  unfolding wordAt
+  word-here h = rw (h, wordAt)
+
+  pub word-cut : {n p : ℕ} → readNumber f 2 at ≡ refused n p → wordAt f at ≡ 0
+  unfolding wordAt
+  word-cut h = rw (h, wordAt)
+
+  pub word-is : {w : ℕ} → at + 2 ≤ length f → numberAt 2 f at ≡ w → wordAt f at ≡ w
+  word-is h e = word-here (number-reads f 2 at h ∙ ap accepted e)
+
+  pub bytes-here : {map : ℕ} → readNumber f 8 at ≡ accepted map → partialBytes (partialAt f at) ≡ 8 + ones map
+  unfolding standingAt
+  bytes-here h = let n = number-read f 8 at h in rw (partial-here f at (n .fits), n .value)
+
+  pub bytes-cut : {n p : ℕ} → readNumber f 8 at ≡ refused n p → partialBytes (partialAt f at) ≡ 8
+  unfolding ones
+  bytes-cut h = rw (partial-cut f at (number-short f 8 at h))
+
+  pub past-is : {n : ℕ} → n ≡ partialBytes (partialAt f at) → at + n ≡ pastPartial f at
+  unfolding pastPartial
+  past-is e = ap (λ (n : ℕ). at + n) e
+
+  pub past-read : {p : Partial} {e : ℕ} → p ≡ partialAt f at → e ≡ at + partialBytes p → pastPartial f at ≡ e
+  unfolding pastPartial
+  past-read p n = ap (λ (x : Partial). at + partialBytes x) (sym p) ∙ sym n
+
+-- A list of offsets that is noted one after the other: what holds of each offset up to here holds with one more noted.
+pub marks-more : (R : ℕ → Read ℕ) (offsets : List ℕ) (i at : ℕ) → i < length offsets → R i ≡ accepted at → ((j : ℕ) → j < i → R j ≡ accepted (getD offsets j 0))
+    → (j : ℕ) → j < i + 1 → R j ≡ accepted (getD (set offsets i at) j 0)
+marks-more R offsets i at l e h j m =
+    let n : j ≤ i = omega arith in
+    elim (eq-or-lt-of-le n) [
+      | inl q ↦ rw (q, getD-set-same offsets i at 0 l) e
+      | inr k ↦ rw (getD-set-other offsets i j at 0 (λ q. omega arith)) (h j k)
+    ]
