@@ -80,6 +80,10 @@ nodes-bytes n a i [] = refl
 nodes-bytes n a i (nd ∷ nodes) =
     omega (arith, total-append stepBytes (nodeSteps n a i nd) (flat (nodeSteps n a) (suc i) nodes), node-bytes n a i (nd .var) 0 (nd .edges), nodes-bytes n a (suc i) nodes)
 
+-- The steps of an action: its start, those of its edges, its end.
+pub action-total : (n a : ℕ) (x : Action) → total stepBytes (actionSteps n a x) ≡ 43 + length (x .pre .values) + length (x .eff .values) + 21 * total edgeCount (x .nodes)
+action-total n a x = omega (arith, total-append stepBytes (flat (nodeSteps n a) 1 (x .nodes)) (endStep n a x ∷ []), start-bytes n a x, end-bytes n a x, nodes-bytes n a 1 (x .nodes))
+
 -- A well-formed partial state has at most a value for each variable.
 pub values-most : {sizes : List ℕ} {p : Partial} → WfPartial sizes p → length (p .values) ≤ length sizes
 values-most {sizes} {p} w = omega (arith, w .count, ones-le (length sizes) (p .map) (w .map-below))
@@ -87,8 +91,7 @@ values-most {sizes} {p} w = omega (arith, w .count, ones-le (length sizes) (p .m
 module _ (sizes : List ℕ) (few : length sizes ≤ 24) (small : Small sizes) where
   -- The steps of an action have at most 91 bytes, and 168 for each node.
   action-bytes : (n a : ℕ) (x : Action) → WfAction sizes x → total stepBytes (actionSteps n a x) ≤ 91 + 168 * length (x .nodes)
-  action-bytes n a x w =
-      omega (arith, few, total-append stepBytes (flat (nodeSteps n a) 1 (x .nodes)) (endStep n a x ∷ []), start-bytes n a x, end-bytes n a x, nodes-bytes n a 1 (x .nodes), action-edges small w, values-most (w .pre), values-most (w .eff))
+  action-bytes n a x w = omega (arith, few, action-total n a x, action-edges small w, values-most (w .pre), values-most (w .eff))
 
   -- The steps of all actions.
   actions-bytes : (n k : ℕ) (actions : List Action) → All (WfAction sizes) actions

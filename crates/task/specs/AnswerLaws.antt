@@ -88,7 +88,7 @@ module _ (f : List ℕ) {i : Index} (ready : Ready f i) where
       }
 
   -- one start for each action
-  starts-count : length (take (i .actions) (i .starts)) ≡ length (t .actions)
+  pub starts-count : length (take (i .actions) (i .starts)) ≡ length (t .actions)
   starts-count = length-take-le (i .actions) (i .starts) (omega (arith, ready .starts-long, starts .actions)) ∙ sym (there .actions)
 
   -- ---- costs

@@ -1,5 +1,5 @@
 -- Laws of walks in place: the ways in which a walk goes on, and that the walk of an action in place is that of the action that was read.
-use mathlib.Core.Path.{_≡_, refl, sym, ap, _∙_}
+use mathlib.Core.Path.{_≡_, refl, sym, ap, subst, subst₂, _∙_}
 use Prim.Native.Nat.{ℕ, zero, suc, _+_, _*_, _-_, _≤_, _<_}
 use native.Mathlib.Nat.{lt-of-not-le}
 use native.Mathlib.Decide.{decLe}
@@ -14,7 +14,8 @@ use Rattle.facts.specs.BytesLaws.{number-one}
 use Rattle.facts.specs.Partial.{pastPartial}
 use Rattle.facts.specs.State.{Inside}
 use Rattle.facts.specs.Fields.{wordAt}
-use Rattle.facts.specs.FieldLaws.{number-ends, count-read}
+use Rattle.facts.specs.PartialReadLaws.{Partial-read}
+use Rattle.facts.specs.FieldLaws.{Weighed, number-ends, count-read}
 use Rattle.facts.specs.InPlaceLaws.{word-cut, word-is, past-read}
 use Rattle.facts.specs.OperatorLaws.{Operator-read, operator-read}
 use Rattle.task.specs.Task.{Edge, Node, Action, edgeAt, Walk, arrived, along, walkFrom, walk, perform, WfAction}
@@ -152,6 +153,16 @@ module _ (f : List ℕ) {sizes : List ℕ} {x : Action} {at first : ℕ} {all : 
   incoming-is : incomingPlace f at ≡ o .place
   unfolding incomingPlace
   incoming-is = ap (pastPartial f) effect-is ∙ past-read f (o .effect) (o .eff .same) (o .eff .next)
+
+  -- precondition, effect and incoming weight, each where the one before it ends
+  pub pre-lies : Partial-read f sizes at (x .pre) (pastPartial f at)
+  pre-lies = subst (Partial-read f sizes at (x .pre)) (sym effect-is) (o .pre)
+
+  pub eff-lies : Partial-read f sizes (pastPartial f at) (x .eff) (incomingPlace f at)
+  eff-lies = subst₂ (λ (p q : ℕ). Partial-read f sizes p (x .eff) q) (sym effect-is) (sym incoming-is) (o .eff)
+
+  pub incoming-lies : Weighed f (incomingPlace f at) (x .incoming) (incomingPlace f at + 2)
+  incoming-lies = subst₂ (λ (p q : ℕ). Weighed f p (x .incoming) q) (sym incoming-is) (omega (arith, incoming-is, o .weight .next)) (o .weight)
 
   pub count-is : nodeCount f at ≡ length (x .nodes)
   unfolding nodeCount

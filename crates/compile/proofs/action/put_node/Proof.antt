@@ -1,0 +1,99 @@
+-- `compile::action::put_node` meets its contract: what is written and what is left are together all steps of the node. Assumes nothing.
+use Prim.Native.Nat.{ℕ, _+_, _*_, _-_, _≤_, _<_}
+use mathlib.Core.Path.{_≡_, subst}
+use mathlib.Core.List.{List}
+use native.Mathlib.Omega.{arith}
+use lib.ListN.{length}
+use denote.Ref.{now}
+use Rattle.facts.specs.Fields.{writeEach}
+use Rattle.probe.specs.Probe.{Step}
+use Rattle.probe.specs.ProbeFile.{writeStep}
+use Rattle.compile.specs.Compile.{mapFrom, edgeStep}
+use Rattle.compile.specs.CompiledLengthLaws.{step-written}
+use Rattle.compile.specs.InPlace.{edgeIn, edgesIn}
+use Rattle.compile.specs.PutLaws.{Cut, Going, going-inside, going-same, going-room, going-more, going-end}
+use Rattle.compile.specs.InPlaceLaws.{node-is, stepsFrom, steps-start, steps-cut, steps-none, wrote-node}
+use borrow.Author.Needs.{needs}
+use Rattle.compile.proofs.action.put_node.Statement.{statement}
+use Rattle.compile.proofs.action.put_node.Tie as tie
+
+abbrev Inv-loop : tie.InvT-loop
+Inv-loop file sizes node a i out₀ n v count at₀ edge₀ d₀ out at edge d =
+    (d ≤ count) × (edge ≡ node + 1 + 3 * d)
+    × Going (writeEach writeStep (mapFrom (edgeStep n a i v) 0 (edgesIn file (node + 1) count))) (stepsFrom file n a i v count d edge) out₀ out at
+
+abbrev μ-loop : tie.MeasureT-loop
+μ-loop file sizes node a i out₀ n v count at₀ edge₀ d₀ out at edge d = count - d
+
+-- all steps, and the room for them
+abbrev whole : tie.After-byte-at2 Inv-loop μ-loop → List ℕ
+whole c = let a = c .before .before .before .before .before .args in writeEach writeStep (mapFrom (edgeStep (length (now (a .sizes))) (a .a) (a .i) (c .before .byte-at .result)) 0 (edgesIn (now (a .file)) (a .node + 1) (c .byte-at2 .result)))
+
+fits : (c : tie.After-byte-at2 Inv-loop μ-loop) → length (whole c) ≤ length (now (c .before .before .before .before .before .args .out))
+fits c =
+    let a = c .before .before .before .before .before .args in
+    subst (λ (bytes : List ℕ). length bytes ≤ length (now (a .out))) (node-is (now (a .file)) (now (a .sizes)) (a .node) (length (now (a .sizes))) (a .a) (a .i) (c .before .byte-at .ensures) (c .byte-at2 .ensures)) (c .before .before .before .before .before .pre .1)
+
+-- what is left from value d on
+abbrev left : tie.After-byte-at2 Inv-loop μ-loop → ℕ → ℕ → List ℕ
+left c d edge = let x = c .before .before .before .before .before .args in stepsFrom (now (x .file)) (length (now (x .sizes))) (x .a) (x .i) (c .before .byte-at .result) (c .byte-at2 .result) d edge
+
+-- the step of the edge for value d
+abbrev step : tie.After-byte-at2 Inv-loop μ-loop → ℕ → ℕ → Step
+step c d edge = let x = c .before .before .before .before .before .args in edgeStep (length (now (x .sizes))) (x .a) (x .i) (c .before .byte-at .result) d (edgeIn (now (x .file)) edge)
+
+cut : (c : tie.After-byte-at2 Inv-loop μ-loop) (d edge : ℕ) → d < c .byte-at2 .result → Cut (left c d edge) (writeStep (step c d edge)) (left c (d + 1) (edge + 3))
+cut c d edge h = let x = c .before .before .before .before .before .args in steps-cut (now (x .file)) (length (now (x .sizes))) (x .a) (x .i) (c .before .byte-at .result) (c .byte-at2 .result) d edge h
+
+put-edge-requires : tie.Need-put-edge-requires Inv-loop μ-loop
+put-edge-requires c κs =
+    let s = c .before .before .before .before .before .before .before .before in
+    let l = c .before .before .loop in
+    let room = going-room (l .inv .2) (fits (c .before .before .before)) (cut (c .before .before .before) (l .d) (l .edge) (c .before .loop-test .taken)) in (
+      (omega (arith, s .pre .0 .0 .below, c .before .before .before .before .byte-at .ensures, s .pre .0 .1), omega (arith, s .pre .0 .1, s .pre .0 .2), omega (arith, l .inv .0, l .inv .1, s .pre .0 .0 .fits, c .before .before .before .byte-at2 .ok)),
+      omega (arith, room, step-written (step (c .before .before .before) (l .d) (l .edge))),
+    )
+
+add-at : tie.Need-add-at Inv-loop μ-loop
+add-at c =
+    let l = c .before .before .before .before .before .loop in
+    let g = going-more (l .inv .2) (fits (c .before .before .before .before .before .before)) (cut (c .before .before .before .before .before .before) (l .d) (l .edge) (c .before .before .before .before .loop-test .taken)) (c .before .before .put-edge .ensures) in
+    omega (arith, going-inside g (fits (c .before .before .before .before .before .before)), going-same g (fits (c .before .before .before .before .before .before)))
+
+loop-again : tie.Need-loop-again Inv-loop μ-loop
+loop-again c =
+    let l = c .before .before .before .before .before .loop in
+    (omega (arith, c .before .before .before .before .loop-test .taken), omega (arith, l .inv .1), going-more (l .inv .2) (fits (c .before .before .before .before .before .before)) (cut (c .before .before .before .before .before .before) (l .d) (l .edge) (c .before .before .before .before .loop-test .taken)) (c .before .before .put-edge .ensures))
+
+returns : tie.Need-returns Inv-loop μ-loop
+returns c =
+    let a = c .before .before .before .before .before .before .before .args in
+    let l = c .before .loop in
+    let n = length (now (a .sizes)) in
+    wrote-node (now (a .file)) (now (a .sizes)) (a .node) n (a .a) (a .i) (c .before .before .before .byte-at .ensures) (c .before .before .byte-at2 .ensures)
+    (going-end (l .inv .2) (fits (c .before .before)) (steps-none (now (a .file)) n (a .a) (a .i) (c .before .before .before .byte-at .result) (c .before .before .byte-at2 .result) (l .d) (l .edge) (omega (arith, c .loop-test .left))))
+
+pub put-node-spec : {M : Type 1} → statement M
+put-node-spec =
+    tie.close
+    (tie.spec
+    Inv-loop
+    μ-loop
+    (λ c κs. search needs)
+    (λ c. search needs)
+    (λ c κs. search needs)
+    (λ c. search needs)
+    (λ c. omega (arith, c .before .before .before .before .before .pre .0 .0 .fits))
+    (λ c. let a = c .before .before .before .before .before .args in (omega arith, omega arith, steps-start (now (a .file)) (length (now (a .sizes))) (a .a) (a .i) (c .before .byte-at .result) (c .byte-at2 .result) (a .node + 1) (now (a .out))))
+    (λ c. omega (arith, c .loop-test .taken, c .before .before .byte-at2 .ok))
+    (λ c. going-inside (c .before .loop .inv .2) (fits (c .before .before)))
+    (λ c. going-inside (c .before .loop .inv .2) (fits (c .before .before)))
+    (λ c. search needs)
+    put-edge-requires
+    add-at
+    (λ c. omega (arith, c .before .before .before .before .before .loop .inv .0, c .before .before .before .before .before .loop .inv .1, c .before .before .before .before .before .before .before .before .before .before .before .pre .0 .0 .fits, c .before .before .before .before .before .before .byte-at2 .ok))
+    (λ c. omega (arith, c .before .before .before .before .loop-test .taken))
+    (λ c. omega (arith, c .before .before .before .before .loop-test .taken))
+    loop-again
+    (λ c. going-same (c .before .loop .inv .2) (fits (c .before .before)))
+    returns)

@@ -1,0 +1,74 @@
+-- `compile::length::extent_of` meets its contract: what is counted and what is left are together all steps. Assumes nothing.
+use Prim.Native.Nat.{_*_, _-_, _≤_}
+use native.Mathlib.Omega.{arith}
+use lib.ListN.{length, getD, drop}
+use denote.Ref.{now}
+use Rattle.compile.specs.Compile.{flat, actionSteps}
+use Rattle.compile.specs.InPlace.{actionsIn, Stood}
+use Rattle.compile.specs.InPlaceLaws.{stepsLeft, left-start, left-none}
+use Rattle.compile.specs.ExtentLaws.{Counted, counted-start, counted-action, counted-end}
+use borrow.Author.Needs.{needs}
+use Rattle.compile.proofs.length.extent_of.Statement.{statement}
+use Rattle.compile.proofs.length.extent_of.Tie as tie
+
+abbrev Inv-loop : tie.InvT-loop
+Inv-loop file sizes actions firsts nodes steps₀ bytes₀ a₀ steps bytes a =
+    (a ≤ length actions) × (steps ≤ 17000 * a) × (bytes ≤ 350000 * a)
+    × Counted (flat (actionSteps (length sizes)) 0 (actionsIn file sizes actions firsts nodes 0 (length actions))) (stepsLeft file sizes actions firsts nodes (length actions) a) steps bytes
+
+abbrev μ-loop : tie.MeasureT-loop
+μ-loop file sizes actions firsts nodes steps₀ bytes₀ a₀ steps bytes a = length actions - a
+
+-- the action of this turn stands in the file
+stood : (c : tie.After-shared-slice-known6 Inv-loop μ-loop) → let a = c .before .before .before .before .before .before .before .before .args in let i = c .before .before .loop .a in
+    Stood (now (a .file)) (now (a .sizes)) (getD (now (a .action-at)) i 0) (drop (getD (now (a .first-node)) i 0) (now (a .node-at)))
+stood c = c .before .before .before .before .before .before .before .before .pre .1 (c .before .before .loop .a) (c .before .loop-test .taken)
+
+-- it has at most 64 nodes with 255 edges each
+edges-few : (c : tie.After-edge-count Inv-loop μ-loop) → c .edge-count .result ≤ 16320
+edges-few c = omega (arith, c .edge-count .ensures .1, c .before .node-count .ensures .0, stood (c .before .before .before .before) .few)
+
+loop-again : tie.Need-loop-again Inv-loop μ-loop
+loop-again c =
+    let a = c .before .before .before .before .before .before .before .before .before .before .before .before .before .args in
+    let l = c .before .before .before .before .before .before .before .loop in
+    let taken = c .before .before .before .before .before .before .loop-test .taken in (
+      omega (arith, taken),
+      omega (arith, l .inv .1, edges-few (c .before)),
+      omega (arith, l .inv .2, edges-few (c .before), c .own-bytes .ensures .1),
+      counted-action (now (a .file)) (now (a .sizes)) (now (a .action-at)) (now (a .first-node)) (now (a .node-at)) (length (now (a .action-at))) (l .a) taken (stood (c .before .before .before .before .before)) (c .before .before .before .before .offset-within .ensures) (c .before .before .node-count .ensures .0) (c .before .edge-count .ensures .0) (c .own-bytes .ensures .0) (l .inv .3),
+    )
+
+returns : tie.Need-returns Inv-loop μ-loop
+returns c =
+    let a = c .before .before .before .before .before .before .before .args in
+    let l = c .before .loop in
+    counted-end (l .inv .3) (left-none (now (a .file)) (now (a .sizes)) (now (a .action-at)) (now (a .first-node)) (now (a .node-at)) (length (now (a .action-at))) (l .a) (omega (arith, c .loop-test .left)))
+
+pub extent-of-spec : {M : Type 1} → statement M
+extent-of-spec =
+    tie.close
+    (tie.spec
+    Inv-loop
+    μ-loop
+    (λ c. let a = c .before .before .before .before .before .args in (omega arith, omega arith, omega arith, counted-start (left-start (now (a .file)) (now (a .sizes)) (now (a .action-at)) (now (a .first-node)) (now (a .node-at)) (length (now (a .action-at))))))
+    (λ c. search needs)
+    (λ c. search needs)
+    (λ c κs. search needs)
+    (λ c. search needs)
+    (λ c. omega (arith, c .offset-within .ensures))
+    (λ c. omega (arith, c .offset-within .ensures))
+    (λ c. search needs)
+    (λ c κs. omega (arith, stood (c .before .before) .pre .fits))
+    (λ c κs. c .node-count .ensures .1)
+    (λ c. omega (arith, edges-few c))
+    (λ c. omega (arith, c .before .before .before .before .before .before .loop .inv .0, c .before .before .before .before .before .before .loop .inv .1, c .before .before .before .before .before .before .before .before .before .before .before .before .pre .0 .1, edges-few c))
+    (λ c κs. omega (arith, stood (c .before .before .before .before) .pre .fits))
+    (λ c. omega (arith, c .own-bytes .ensures .1))
+    (λ c. omega (arith, edges-few (c .before)))
+    (λ c. omega (arith, c .own-bytes .ensures .1, edges-few (c .before)))
+    (λ c. omega (arith, c .before .before .before .before .before .before .before .loop .inv .0, c .before .before .before .before .before .before .before .loop .inv .2, c .before .before .before .before .before .before .before .before .before .before .before .before .before .pre .0 .1, c .own-bytes .ensures .1, edges-few (c .before)))
+    (λ c. omega (arith, c .before .before .before .before .before .before .loop-test .taken))
+    (λ c. omega (arith, c .before .before .before .before .before .before .loop-test .taken))
+    loop-again
+    returns)

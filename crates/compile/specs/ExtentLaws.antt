@@ -1,0 +1,82 @@
+-- Laws of how many steps the actions of a task have, and how many bytes: counted one action at a time.
+use mathlib.Core.Path.{_≡_, sym, ap, subst, _∙_}
+use Prim.Native.Nat.{ℕ, suc, _+_, _*_, _-_, _≤_, _<_, min}
+use native.Mathlib.Omega.{arith}
+use native.Mathlib.Numerals.{add-one}
+use mathlib.Core.List.{List, [], _∷_, _++_}
+use lib.Count.{ones}
+use lib.ListN.{length, getD, take, drop, length-append, length-drop}
+use lib.Seq.{length-take-le}
+use Rattle.facts.specs.Bytes.{numberAt}
+use Rattle.facts.specs.Lists.{total}
+use Rattle.facts.specs.Partial.{Partial, partialBytes, standingAt, partialAt, pastPartial}
+use Rattle.facts.specs.PartialLaws.{partial-here}
+use Rattle.task.specs.Task.{Action}
+use Rattle.task.specs.WalkInPlace.{nodeCount}
+use Rattle.task.specs.MoveInPlaceLaws.{own-nodes}
+use Rattle.probe.specs.Probe.{Step}
+use Rattle.compile.specs.Compile.{flat, actionSteps, edgeCount}
+use Rattle.compile.specs.StepLaws.{total-append, action-length}
+use Rattle.compile.specs.CompiledLengthLaws.{stepBytes, action-total}
+use Rattle.compile.specs.InPlace.{nodesIn, actionIn, actionsIn, Stands, Stood}
+use Rattle.compile.specs.InPlaceLaws.{stepsLeft, left-next}
+
+-- ---- what is counted and what is left are together all
+
+-- of the steps `whole`, `rest` are left to count, and the others are so many, with so many bytes
+pub record Counted (whole rest : List Step) (steps bytes : ℕ) : Type 0 where
+  pub steps-are : length whole ≡ steps + length rest
+  pub bytes-are : total stepBytes whole ≡ bytes + total stepBytes rest
+
+-- At first all are left.
+pub counted-start : {whole rest : List Step} → rest ≡ whole → Counted whole rest 0 0
+counted-start {whole} {rest} e = record { steps-are = omega (arith, ap length e); bytes-are = omega (arith, ap (total stepBytes) e) }
+
+-- Then further ones are counted.
+counted-more : {whole rest : List Step} {steps bytes : ℕ} (row more : List Step) {s b : ℕ} → Counted whole rest steps bytes → rest ≡ row ++ more
+    → length row ≡ s → total stepBytes row ≡ b → Counted whole more (steps + s) (bytes + b)
+counted-more row more c e s b = record {
+  steps-are = omega (arith, c .steps-are, ap length e ∙ length-append row more, s);
+  bytes-are = omega (arith, c .bytes-are, ap (total stepBytes) e ∙ total-append stepBytes row more, b);
+}
+
+-- At last all are counted.
+pub counted-end : {whole rest : List Step} {steps bytes : ℕ} → Counted whole rest steps bytes → rest ≡ [] → (steps ≡ length whole) × (bytes ≡ total stepBytes whole)
+counted-end c e = (omega (arith, c .steps-are, ap length e), omega (arith, c .bytes-are, ap (total stepBytes) e))
+
+-- ---- one action
+
+module _ (f : List ℕ) where
+  -- A partial state that stands in the file has a value for each standing bit.
+  stands-values : {n at : ℕ} → Stands f n at → partialBytes (partialAt f at) ≡ 8 + length (partialAt f at .values)
+  unfolding standingAt
+  stands-values {n} {at} s =
+      let e = partial-here f at (omega (arith, s .fits)) in
+      let fits : at + (8 + ones (numberAt 8 f at)) ≤ length f = subst (λ (p : Partial). at + partialBytes p ≤ length f) e (s .fits) in
+      subst (λ (p : Partial). partialBytes p ≡ 8 + length (p .values)) (sym e) (ap (λ (k : ℕ). 8 + k) (sym (length-take-le (ones (numberAt 8 f at)) (drop (at + 8) f) (simp length-drop (omega (arith, fits))))))
+
+  -- The steps of the action at an offset have the bytes of start and end, of the action's own partial states, and of the edges.
+  bytes-in : (sizes : List ℕ) (n a : ℕ) {at : ℕ} {own : List ℕ} → Stood f sizes at own
+      → total stepBytes (actionSteps n a (actionIn f sizes at own))
+      ≡ 27 + (partialBytes (partialAt f at) + partialBytes (partialAt f (pastPartial f at))) + 21 * total edgeCount (nodesIn f sizes own 0 (nodeCount f at))
+  bytes-in sizes n a {at} {own} s = omega (arith, action-total n a (actionIn f sizes at own), stands-values (s .pre), stands-values (s .eff))
+
+  -- The edges of an action's own nodes, which are those from index n on, where the index k is n, or the end of all offsets.
+  edges-own : (sizes nodes : List ℕ) (at n : ℕ) {k count edges : ℕ} → k ≡ min n (length nodes) → count ≡ nodeCount f at
+      → edges ≡ total edgeCount (nodesIn f sizes (take (length nodes - k) (drop k nodes)) 0 count) → edges ≡ total edgeCount (nodesIn f sizes (drop n nodes) 0 (nodeCount f at))
+  edges-own sizes nodes at n h g e = rw (own-nodes nodes n h, g) at e
+
+-- ---- all actions
+
+module _ (f sizes actions firsts nodes : List ℕ) (count : ℕ) where
+  -- The steps of action a are counted: its first node has the index k, or stands past the last offset.
+  pub counted-action : (a : ℕ) {whole : List Step} {steps bytes k m edges states : ℕ} → a < count → Stood f sizes (getD actions a 0) (drop (getD firsts a 0) nodes)
+      → k ≡ min (getD firsts a 0) (length nodes) → m ≡ nodeCount f (getD actions a 0)
+      → edges ≡ total edgeCount (nodesIn f sizes (take (length nodes - k) (drop k nodes)) 0 m)
+      → states ≡ partialBytes (partialAt f (getD actions a 0)) + partialBytes (partialAt f (pastPartial f (getD actions a 0)))
+      → Counted whole (stepsLeft f sizes actions firsts nodes count a) steps bytes → Counted whole (stepsLeft f sizes actions firsts nodes count (a + 1)) (steps + (2 + edges)) (bytes + (27 + states + 21 * edges))
+  counted-action a l stood h g e p c =
+      let n = length sizes in
+      let x = actionIn f sizes (getD actions a 0) (drop (getD firsts a 0) nodes) in
+      let own = edges-own f sizes nodes (getD actions a 0) (getD firsts a 0) h g e in
+      counted-more (actionSteps n a x) (stepsLeft f sizes actions firsts nodes count (a + 1)) c (left-next f sizes actions firsts nodes count a l) (omega (arith, action-length n a x, own)) (omega (arith, bytes-in f sizes n a stood, own, p))

@@ -1,0 +1,160 @@
+-- Laws of what the code writes: partial states with further facts, and rows that are written one element after the other.
+use mathlib.Core.Path.{_≡_, refl, sym, ap, subst, subst₂, _∙_}
+use mathlib.Core.List.{List, [], _∷_, _++_, append-nil, append-assoc}
+use Prim.Native.Nat.{ℕ, suc, _+_, _-_, _^_, _≤_, _<_}
+use native.Mathlib.Omega.{arith}
+use lib.Count.{ones}
+use lib.ListN.{length, getD, take, drop, length-append, length-drop}
+use lib.Pow.{pow-mono}
+use borrow.Rule.Slice.PartMut.{putMid}
+use Rattle.facts.specs.Read.{accepted}
+use Rattle.facts.specs.Write.{over, fitting, Wrote}
+use Rattle.facts.specs.WriteLaws.{fitting-all, wrote-inside, wrote-room, wrote-then}
+use Rattle.facts.specs.Bytes.{bytesOf}
+use Rattle.facts.specs.Partial.{Partial, writePartial, partialAt, standingAt, partialBytes, empty, pastPartial}
+use Rattle.facts.specs.PartialLaws.{length-written, partial-here}
+use Rattle.facts.specs.Fields.{readNumber, wordAt, writeOperator}
+use Rattle.facts.specs.FieldLaws.{number-read}
+use Rattle.task.specs.WalkInPlace.{incomingPlace}
+use Rattle.probe.specs.ProbeFile.{writeStep}
+use Rattle.compile.specs.Extend.{extend}
+use Rattle.compile.specs.Compile.{marker, edgeStep}
+use Rattle.compile.specs.InPlace.{widened, edgeIn, startIn, endIn}
+
+-- What fits is written whole.
+pub wrote-fit : {bytes before now : List ℕ} {n : ℕ} → length bytes ≤ length before → Wrote (fitting bytes before) before now n → Wrote bytes before now n
+wrote-fit {bytes} {before} {now} {n} h w = rw (fitting-all bytes before h) at w
+
+-- Two further facts, as bits and values.
+pub extend-two : (p : Partial) (v w x y : ℕ) → widened p (2 ^ v + 2 ^ w) (x ∷ y ∷ []) ≡ extend (extend p v x) w y
+extend-two p v w x y =
+    let m : p .map + (2 ^ v + 2 ^ w) ≡ p .map + 2 ^ v + 2 ^ w = omega arith in
+    rw (m, append-assoc (p .values) (x ∷ []) (y ∷ []))
+
+-- A bit of a probe file's map.
+pub power-small : {v : ℕ} → v < 57 → 2 ^ v ≤ 72057594037927936
+power-small {v} h = pow-mono {i = v} {j = 56} (omega arith)
+
+-- A map of a task's variables with two bits of a probe file's more has at most 64.
+pub map-fits : (map n bits : ℕ) → map < 2 ^ n → n < 57 → bits < 288230376151711744 → map + bits < 18446744073709551616
+map-fits map n bits h l b = omega (arith, power-small {v = n} l)
+
+module _ {before now : List ℕ} {n : ℕ} where
+  -- One fact is written.
+  pub wrote-one : (v x : ℕ) {m : ℕ} → m ≡ 2 ^ v → 9 ≤ length before → Wrote (fitting (writePartial (record { map = m; values = x ∷ [] })) before) before now n
+      → Wrote (writePartial (extend empty v x)) before now n
+  wrote-one v x {m} e room w = let g : m ≡ 0 + 2 ^ v = omega (arith, e) in wrote-fit (omega (arith, length-written (extend empty v x))) (rw g at w)
+
+  -- Two facts are written.
+  pub wrote-two : (v w x y : ℕ) {m : ℕ} → m ≡ 2 ^ v + 2 ^ w → 10 ≤ length before → Wrote (fitting (writePartial (record { map = m; values = x ∷ y ∷ [] })) before) before now n
+      → Wrote (writePartial (extend (extend empty v x) w y)) before now n
+  wrote-two v w x y {m} e room h = let g : m ≡ 0 + 2 ^ v + 2 ^ w = omega (arith, e) in wrote-fit (omega (arith, length-written (extend (extend empty v x) w y))) (rw g at h)
+
+  -- The partial state at an offset is written, with further facts.
+  pub wrote-extended : (f : List ℕ) (at bits : ℕ) {map k : ℕ} (further : List ℕ) → readNumber f 8 at ≡ accepted map → k ≡ ones map
+      → length (writePartial (widened (partialAt f at) bits further)) ≤ length before
+      → Wrote (fitting (writePartial (record { map = map + bits; values = take k (drop (at + 8) f) ++ further })) before) before now n
+      → Wrote (writePartial (widened (partialAt f at) bits further)) before now n
+  unfolding standingAt
+  wrote-extended f at bits {map} {k} further h e room w =
+      let r = number-read f 8 at h in
+      let p : partialAt f at ≡ record { map = map; values = take k (drop (at + 8) f) } = partial-here f at (r .fits) ∙ rw (r .value, e) in
+      wrote-fit room (subst (λ (q : Partial). Wrote (fitting (writePartial (widened q bits further)) before) before now n) (sym p) w)
+
+  -- Precondition, effect and cost are written.
+  pub wrote-step : (pre eff : Partial) (cost : ℕ) → Wrote ((writePartial pre ++ writePartial eff) ++ bytesOf 2 cost) before now n
+      → Wrote (writeStep (record { pre = pre; eff = eff; cost = cost })) before now n
+  unfolding writeStep writeOperator
+  wrote-step pre eff cost w = rw (← append-assoc (writePartial pre) (writePartial eff) (bytesOf 2 cost)) w
+
+-- The marker of an action, as the code adds it up.
+marker-is : (n a : ℕ) → n + (1 + a) ≡ marker n a
+marker-is n a = omega arith
+
+-- An edge's step is written from the bytes of its edge.
+pub wrote-edge : {before now : List ℕ} {k : ℕ} (f : List ℕ) (at n a i v d : ℕ) {t w : ℕ} → t ≡ getD f at 0 → w ≡ wordAt f (at + 1)
+    → Wrote ((writePartial (extend (extend empty v d) (n + (1 + a)) i) ++ writePartial (extend empty (n + (1 + a)) t)) ++ bytesOf 2 w) before now k
+    → Wrote (writeStep (edgeStep n a i v d (edgeIn f at))) before now k
+wrote-edge {before} {now} {k} f at n a i v d {t} {w} e g h =
+    let m : Wrote ((writePartial (extend (extend empty v d) (marker n a) i) ++ writePartial (extend empty (marker n a) t)) ++ bytesOf 2 w) before now k =
+    subst (λ (x : ℕ). Wrote ((writePartial (extend (extend empty v d) x i) ++ writePartial (extend empty x t)) ++ bytesOf 2 w) before now k) (marker-is n a) h in
+    wrote-step (extend (extend empty v d) (marker n a) i) (extend empty (marker n a) (getD f at 0)) (wordAt f (at + 1))
+    (subst₂ (λ (x y : ℕ). Wrote ((writePartial (extend (extend empty v d) (marker n a) i) ++ writePartial (extend empty (marker n a) x)) ++ bytesOf 2 y) before now k) e g m)
+
+-- An action's start is written from the bytes of the action.
+pub wrote-start : {before now : List ℕ} {k : ℕ} (f : List ℕ) (at n a : ℕ) {e i w : ℕ} → e ≡ pastPartial f at → i ≡ pastPartial f e → w ≡ wordAt f i
+    → Wrote ((writePartial (extend (extend (partialAt f at) n 0) (n + (1 + a)) 0) ++ writePartial (extend (extend empty n 1) (n + (1 + a)) 1)) ++ bytesOf 2 w) before now k
+    → Wrote (writeStep (startIn f n a at)) before now k
+unfolding incomingPlace
+wrote-start {before} {now} {k} f at n a e i w h =
+    wrote-step (extend (extend (partialAt f at) n 0) (marker n a) 0) (extend (extend empty n 1) (marker n a) 1) (wordAt f (incomingPlace f at))
+    (subst₂ (λ (x y : ℕ). Wrote ((writePartial (extend (extend (partialAt f at) n 0) x 0) ++ writePartial (extend (extend empty n 1) x 1)) ++ bytesOf 2 y) before now k)
+    (marker-is n a) (w ∙ ap (wordAt f) (i ∙ ap (pastPartial f) e)) h)
+
+-- An action's end is written from the bytes of the action.
+pub wrote-end : {before now : List ℕ} {k : ℕ} (f : List ℕ) (at n a count : ℕ) {e : ℕ} → e ≡ pastPartial f at
+    → Wrote ((writePartial (extend empty (n + (1 + a)) (1 + count)) ++ writePartial (extend (extend (partialAt f e) n 0) (n + (1 + a)) 0)) ++ bytesOf 2 0) before now k
+    → Wrote (writeStep (endIn f n a at count)) before now k
+wrote-end {before} {now} {k} f at n a count {e} g h =
+    let c : 1 + count ≡ suc count = omega arith in
+    let m : Wrote ((writePartial (extend empty (marker n a) (suc count)) ++ writePartial (extend (extend (partialAt f e) n 0) (marker n a) 0)) ++ bytesOf 2 0) before now k =
+    subst₂ (λ (x y : ℕ). Wrote ((writePartial (extend empty x y) ++ writePartial (extend (extend (partialAt f e) n 0) x 0)) ++ bytesOf 2 0) before now k) (marker-is n a) c h in
+    wrote-step (extend empty (marker n a) (suc count)) (extend (extend (partialAt f (pastPartial f at)) n 0) (marker n a) 0) 0
+    (subst (λ (p : ℕ). Wrote ((writePartial (extend empty (marker n a) (suc count)) ++ writePartial (extend (extend (partialAt f p) n 0) (marker n a) 0)) ++ bytesOf 2 0) before now k) g m)
+
+-- Two further facts at 0.
+pub cleared-is : (p : Partial) (n m : ℕ) {bits : ℕ} → bits ≡ 2 ^ n + 2 ^ m → widened p bits (0 ∷ 0 ∷ []) ≡ extend (extend p n 0) m 0
+cleared-is p n m e = ap (λ (b : ℕ). widened p b (0 ∷ 0 ∷ [])) e ∙ extend-two p n m 0 0
+
+pub wrote-cleared : {before now : List ℕ} {k : ℕ} (p : Partial) (n m : ℕ) {bits : ℕ} → bits ≡ 2 ^ n + 2 ^ m → Wrote (writePartial (widened p bits (0 ∷ 0 ∷ []))) before now k
+    → Wrote (writePartial (extend (extend p n 0) m 0)) before now k
+wrote-cleared {before} {now} {k} p n m e w = subst (λ (q : Partial). Wrote (writePartial q) before now k) (cleared-is p n m e) w
+
+-- The map of the partial state at an offset, and how many bits stand in it.
+pub map-here : (f : List ℕ) (at : ℕ) {map : ℕ} → readNumber f 8 at ≡ accepted map → partialAt f at .map ≡ map
+unfolding standingAt
+map-here f at h = let r = number-read f 8 at h in ap (λ (p : Partial). p .map) (partial-here f at (r .fits)) ∙ r .value
+
+pub map-ones : (f : List ℕ) (at : ℕ) {map : ℕ} → readNumber f 8 at ≡ accepted map → ones (partialAt f at .map) ≡ ones map
+map-ones f at h = ap ones (map-here f at h)
+
+-- ---- a row that is written one element after the other
+
+-- what is left is `bytes` and then `more`
+pub record Cut (rest bytes more : List ℕ) : Type 0 where
+  pub cut : rest ≡ bytes ++ more
+
+-- `whole` is what is to be written in all, and `rest` what is left of it
+pub record Going (whole rest before now : List ℕ) (at : ℕ) : Type 0 where
+  pub done : List ℕ
+  pub wrote : Wrote done before now at
+  pub left : whole ≡ done ++ rest
+
+pub going-start : (whole out : List ℕ) → Going whole whole out out 0
+unfolding over
+going-start whole out = record { done = []; wrote = record { count = refl; buffer = refl }; left = refl }
+
+module _ {whole rest before now : List ℕ} {at : ℕ} (g : Going whole rest before now at) (fits : length whole ≤ length before) where
+  lengths : length whole ≡ length (g .done) + length rest
+  lengths = ap length (g .left) ∙ length-append (g .done) rest
+
+  pub going-inside : at ≤ length now
+  going-inside = wrote-inside (g .wrote) (omega (arith, lengths))
+
+  pub going-same : length now ≡ length before
+  unfolding over
+  going-same = rw (g .wrote .buffer) (simp (length-append, length-drop) (omega (arith, lengths)))
+
+  pub going-room : {bytes more : List ℕ} → Cut rest bytes more → length bytes ≤ length (take (length now - at) (drop at now))
+  going-room {bytes} {more} e = wrote-room (g .wrote) (omega (arith, lengths, ap length (e .cut) ∙ length-append bytes more))
+
+  pub going-more : {bytes more last : List ℕ} {n : ℕ} → Cut rest bytes more → Wrote bytes (take (length now - at) (drop at now)) last n
+      → Going whole more before (putMid at (length now - at) now last) (at + n)
+  going-more {bytes} {more} e w = record {
+    done = g .done ++ bytes;
+    wrote = wrote-then (g .wrote) w;
+    left = g .left ∙ rw (e .cut, append-assoc);
+  }
+
+  pub going-end : rest ≡ [] → Wrote whole before now at
+  going-end e = rw (g .left, e, append-nil) (g .wrote)

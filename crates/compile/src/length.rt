@@ -1,0 +1,87 @@
+// How many steps the actions of a task have, and how many bytes.
+use facts::number::byte_at;
+use facts::number::offset_at;
+use facts::number::offset_within;
+use facts::partial::length_at;
+ghost use mathlib.Core.Path.{_≡_};
+ghost use Prim.Native.Nat.{ℕ, _+_, _*_, _≤_, _<_};
+ghost use lib.ListN.{length, getD, drop};
+ghost use Rattle.facts.specs.Lists.{total};
+ghost use Rattle.facts.specs.Partial.{partialAt, partialBytes, pastPartial};
+ghost use Rattle.task.specs.WalkInPlace.{nodeCount};
+ghost use Rattle.compile.specs.Compile.{flat, actionSteps, edgeCount};
+ghost use Rattle.compile.specs.CompiledLengthLaws.{stepBytes};
+ghost use Rattle.compile.specs.InPlace.{nodesIn, actionsIn, Stood};
+
+// The bytes of an edge's step: three facts, two maps and a cost.
+const EDGE_STEP: usize = 21;
+
+// The bytes of start and end, without the action's own partial states: five facts, two maps and two costs.
+const START_AND_END: usize = 27;
+
+// Steps, and their bytes.
+pub struct Extent {
+    pub steps: usize,
+    pub bytes: usize,
+}
+
+// The steps of all actions: `action_at` has the offset of each, `first_node` the index of its first node in `node_at`.
+pub fn extent_of(
+    file: &[u8],
+    sizes: &[u8],
+    action_at: &[usize],
+    first_node: &[usize],
+    node_at: &[usize],
+) -> Extent
+    requires { ⌜ (length (now sizes) ≤ 24) × (length (now «action_at») ≤ 32) ⌝ }
+    requires { ⌜ ((a : ℕ) → a < length (now «action_at») → Stood (now file) (now sizes) (getD (now «action_at») a 0) (drop (getD (now «first_node») a 0) (now «node_at»))) ⌝ }
+    ensures { λ r. ⌜ r .steps ≡ length (flat (actionSteps (length (now (sizes .entry)))) 0 (actionsIn (now (file .entry)) (now (sizes .entry)) (now («action_at» .entry)) (now («first_node» .entry)) (now («node_at» .entry)) 0 (length (now («action_at» .entry))))) ⌝ }
+    ensures { λ r. ⌜ r .bytes ≡ total stepBytes (flat (actionSteps (length (now (sizes .entry)))) 0 (actionsIn (now (file .entry)) (now (sizes .entry)) (now («action_at» .entry)) (now («first_node» .entry)) (now («node_at» .entry)) 0 (length (now («action_at» .entry))))) ⌝ }
+{
+    let mut steps: usize = 0;
+    let mut bytes: usize = 0;
+    let mut a: usize = 0;
+    while a < action_at.len() {
+        let at = action_at[a];
+        let first = offset_within(first_node, a, node_at.len());
+        let edges = edge_count(file, sizes, &node_at[first..], node_count(file, at));
+        steps += 2 + edges;
+        bytes += START_AND_END + own_bytes(file, at) + EDGE_STEP * edges;
+        a += 1;
+    }
+    Extent { steps, bytes }
+}
+
+// The bytes of an action's precondition and effect.
+fn own_bytes(file: &[u8], at: usize) -> usize
+    requires { ⌜ at ≤ length (now file) ⌝ }
+    ensures { λ r. ⌜ (r ≡ partialBytes (partialAt (now (file .entry)) at) + partialBytes (partialAt (now (file .entry)) (pastPartial (now (file .entry)) at))) × (r ≤ 144) ⌝ }
+{
+    let pre = length_at(file, at);
+    pre + length_at(file, at + pre)
+}
+
+// The number of nodes of the action at an offset.
+pub fn node_count(file: &[u8], at: usize) -> usize
+    requires { ⌜ at ≤ length (now file) ⌝ }
+    ensures { λ r. ⌜ (r ≡ nodeCount (now (file .entry)) at) × (r < 256) ⌝ }
+{
+    let effect = at + length_at(file, at);
+    let incoming = effect + length_at(file, effect);
+    byte_at(file, incoming + 2) as usize
+}
+
+// The edges of the first `count` nodes at these offsets: one for each value of a node's variable.
+fn edge_count(file: &[u8], sizes: &[u8], nodes: &[usize], count: usize) -> usize
+    requires { ⌜ count < 256 ⌝ }
+    ensures { λ r. ⌜ (r ≡ total edgeCount (nodesIn (now (file .entry)) (now (sizes .entry)) (now (nodes .entry)) 0 count)) × (r ≤ 255 * count) ⌝ }
+{
+    let mut edges: usize = 0;
+    let mut j: usize = 0;
+    while j < count {
+        let variable = byte_at(file, offset_at(nodes, j)) as usize;
+        edges += byte_at(sizes, variable) as usize;
+        j += 1;
+    }
+    edges
+}

@@ -1,0 +1,74 @@
+// The steps of an action: start, edges, end. With n variables of the task, variable n is the semaphore, and n + 1 + a the marker of action a.
+use crate::put::put_extended;
+use crate::put::put_one;
+use crate::put::put_two;
+use crate::put::put_word;
+use crate::put::two_bits;
+use facts::number::byte_at;
+use facts::number::word_at;
+use facts::partial::length_at;
+ghost use Prim.Native.Nat.{_+_, _≤_, _<_};
+ghost use lib.ListN.{length};
+ghost use Rattle.facts.specs.Partial.{partialAt, writePartial, pastPartial};
+ghost use Rattle.facts.specs.Write.{Wrote};
+ghost use Rattle.probe.specs.ProbeFile.{writeStep};
+ghost use Rattle.compile.specs.Extend.{extend};
+ghost use Rattle.compile.specs.Compile.{edgeStep};
+ghost use Rattle.compile.specs.InPlace.{edgeIn, startIn, endIn, Stands};
+
+// The partial state at an offset, with semaphore and marker of action a at 0.
+pub fn put_cleared(file: &[u8], at: usize, n: usize, a: usize, out: &mut [u8]) -> usize
+    requires { ⌜ Stands (now file) n at × (n + (1 + a) < 57) ⌝ }
+    requires { ⌜ length (writePartial (extend (extend (partialAt (now file) at) n 0) (n + (1 + a)) 0)) ≤ length (now out) ⌝ }
+    ensures { λ r. ⌜ Wrote (writePartial (extend (extend (partialAt (now (file .entry)) at) n 0) (n + (1 + a)) 0)) (now (out .entry)) (now (out .exit)) r ⌝ }
+{
+    let zeros = [0, 0];
+    put_extended(file, at, two_bits(n, n + (1 + a)), &zeros, out)
+}
+
+// The start of action a, at an offset: its precondition, semaphore and marker at 0; sets both to 1; costs the incoming weight.
+pub fn put_start(file: &[u8], at: usize, n: usize, a: usize, out: &mut [u8]) -> usize
+    requires { ⌜ Stands (now file) n at × Stands (now file) n (pastPartial (now file) at) × (n + (1 + a) < 57) ⌝ }
+    requires { ⌜ length (writeStep (startIn (now file) n a at)) ≤ length (now out) ⌝ }
+    ensures { λ r. ⌜ Wrote (writeStep (startIn (now (file .entry)) n a at)) (now (out .entry)) (now (out .exit)) r ⌝ }
+{
+    let effect = at + length_at(file, at);
+    let weight = word_at(file, effect + length_at(file, effect));
+    let pre = put_cleared(file, at, n, a, out);
+    let eff = pre + put_two(n, 1, n + (1 + a), 1, &mut out[pre..]);
+    eff + put_word(&mut out[eff..], weight)
+}
+
+// The edge at an offset, of node i of action a, for the value d of its variable v: the marker goes from i to the target; costs the edge's weight.
+pub fn put_edge(
+    file: &[u8],
+    at: usize,
+    n: usize,
+    a: usize,
+    i: u8,
+    v: usize,
+    d: u8,
+    out: &mut [u8],
+) -> usize
+    requires { ⌜ (v < 57) × (n + (1 + a) < 57) × (at ≤ length (now file) + 1024) ⌝ }
+    requires { ⌜ 21 ≤ length (now out) ⌝ }
+    ensures { λ r. ⌜ Wrote (writeStep (edgeStep n a i v d (edgeIn (now (file .entry)) at))) (now (out .entry)) (now (out .exit)) r ⌝ }
+{
+    let target = byte_at(file, at);
+    let weight = word_at(file, at + 1);
+    let pre = put_two(v, d, n + (1 + a), i, out);
+    let eff = pre + put_one(n + (1 + a), target, &mut out[pre..]);
+    eff + put_word(&mut out[eff..], weight)
+}
+
+// The end of action a, at an offset, with so many nodes: its marker at the terminal; sets the effect, semaphore and marker to 0; costs nothing.
+pub fn put_end(file: &[u8], at: usize, count: usize, n: usize, a: usize, out: &mut [u8]) -> usize
+    requires { ⌜ Stands (now file) n at × Stands (now file) n (pastPartial (now file) at) × (n + (1 + a) < 57) × (count ≤ 64) ⌝ }
+    requires { ⌜ length (writeStep (endIn (now file) n a at count)) ≤ length (now out) ⌝ }
+    ensures { λ r. ⌜ Wrote (writeStep (endIn (now (file .entry)) n a at count)) (now (out .entry)) (now (out .exit)) r ⌝ }
+{
+    let effect = at + length_at(file, at);
+    let pre = put_one(n + (1 + a), (1 + count) as u8, out);
+    let eff = pre + put_cleared(file, effect, n, a, &mut out[pre..]);
+    eff + put_word(&mut out[eff..], 0)
+}

@@ -1,0 +1,20 @@
+// The compiling program: a task file on standard input; its probe file, or the refusal, on standard output.
+use compile::Compiled;
+
+// One byte more than the longest task file has: what follows cannot change the answer.
+const INPUT: usize = 3827;
+
+// The most bytes that a written probe file has.
+const OUTPUT: usize = 13846;
+
+fn main() {
+    let mut input = [0; INPUT];
+    let length = io::read_full(0, &mut input);
+    let mut output = [0; OUTPUT];
+    match compile::compile(&input[..length], &mut output) {
+        Compiled::Length(written) => {
+            io::write_all(1, &output[..written]);
+        }
+        Compiled::Refused(why) => show::refusal(why),
+    }
+}
