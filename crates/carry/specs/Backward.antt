@@ -13,7 +13,7 @@ use Rattle.facts.specs.RunLaws.{attempt-next}
 use Rattle.task.specs.Task.{Node, Action, Task, edgeAt, cost, actionMove, Plan, WfTask}
 use Rattle.task.specs.TaskLaws.{move-at}
 use Rattle.probe.specs.Probe.{ProbePlan}
-use Rattle.compile.specs.Compile.{probeOf}
+use Rattle.compilation.specs.Compile.{probeOf}
 use Rattle.carry.specs.Carry.{firstStep, expandFrom, expand}
 use Rattle.carry.specs.RunLaws.{pay, reaches-step, reaches-end}
 use Rattle.carry.specs.ViewLaws.{edgeNumber, endNumber}

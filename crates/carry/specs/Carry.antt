@@ -8,7 +8,7 @@ use lib.ListN.{getD, getElem?, take}
 use Rattle.facts.specs.Lists.{total}
 use Rattle.facts.specs.Partial.{apply}
 use Rattle.task.specs.Task.{Node, Action, Task, edgeAt}
-use Rattle.compile.specs.Compile.{edgeCount, stepCount}
+use Rattle.compilation.specs.Compile.{edgeCount, stepCount}
 
 -- the number of the start of action a: all steps of the actions before it come first
 abbrev pub firstStep : List Action → ℕ → ℕ

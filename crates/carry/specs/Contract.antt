@@ -11,7 +11,7 @@ use Rattle.facts.specs.ListLaws.{look, at-length}
 use Rattle.facts.specs.Partial.{apply}
 use Rattle.facts.specs.Run.{Reaches, steps}
 use Rattle.task.specs.Task.{Action, Task, edgeAt, actionMove, Plan, WfTask}
-use Rattle.compile.specs.Compile.{edgeCount, stepCount}
+use Rattle.compilation.specs.Compile.{edgeCount, stepCount}
 use Rattle.carry.specs.Carry.{firstStep, expandFrom, expand, startedBy, contractOf, contract}
 use Rattle.carry.specs.ListLaws.{total-take}
 use Rattle.carry.specs.RunLaws.{action-moved}

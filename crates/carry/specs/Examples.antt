@@ -6,7 +6,7 @@ use Rattle.facts.specs.Run.{runFrom}
 use Rattle.task.specs.Task.{walkFrom, walk, actionMove, taskSum}
 use Rattle.task.specs.Examples.{P}
 use Rattle.probe.specs.Probe.{stepMove, probeSum}
-use Rattle.compile.specs.Compile.{stepsOf, probeOf}
+use Rattle.compilation.specs.Compile.{stepsOf, probeOf}
 use Rattle.carry.specs.Carry.{expand, contract}
 
 -- ---- carried across

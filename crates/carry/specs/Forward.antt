@@ -12,7 +12,7 @@ use Rattle.facts.specs.Run.{Reaches, ends, steps}
 use Rattle.task.specs.Task.{Node, Action, Task, edgeAt, Walk, walkFrom, walk, cost, actionMove, Plan, WfTask}
 use Rattle.task.specs.WalkLaws.{edge-wf, walk-node, walk-terminal, walk-induction}
 use Rattle.probe.specs.Probe.{ProbePlan}
-use Rattle.compile.specs.Compile.{probeOf}
+use Rattle.compilation.specs.Compile.{probeOf}
 use Rattle.carry.specs.Carry.{firstStep, pathSteps, actionList, expandFrom, expand}
 use Rattle.carry.specs.PathLaws.{steps-at, steps-end}
 use Rattle.carry.specs.RunLaws.{action-moved, pay}

@@ -8,7 +8,7 @@ use mathlib.Core.List.{List, [], _∷_, _++_}
 use lib.ListN.{length, take}
 use Rattle.facts.specs.Lists.{total, At, here, there}
 use Rattle.facts.specs.ListLaws.{look, at-none}
-use Rattle.compile.specs.Compile.{mapFrom, flat}
+use Rattle.compilation.specs.Compile.{mapFrom, flat}
 
 pub total-take : {A : Type 0} (size : A → ℕ) {xs : List A} {j : ℕ} {x : A} → At xs j x → total size (take j xs) + size x ≤ total size xs
 total-take size here = omega arith

@@ -18,9 +18,9 @@ use Rattle.task.specs.Task.{Edge, Node, Action, Task, edgeAt}
 use Rattle.task.specs.WalkLaws.{edge-there}
 use Rattle.probe.specs.Probe.{Step, stepMove}
 use Rattle.probe.specs.ProbeLaws.{move-at}
-use Rattle.compile.specs.Extend.{clear}
-use Rattle.compile.specs.ExtendLaws.{and-true, allZero, clear-holds}
-use Rattle.compile.specs.Compile.{variables, edgeStep, endStep, stepsOf}
+use Rattle.compilation.specs.Extend.{clear}
+use Rattle.compilation.specs.ExtendLaws.{and-true, allZero, clear-holds}
+use Rattle.compilation.specs.Compile.{variables, edgeStep, endStep, stepsOf}
 use Rattle.carry.specs.Carry.{firstStep}
 use Rattle.carry.specs.ListLaws.{at-same}
 use Rattle.carry.specs.RunLaws.{step-moved}

@@ -8,7 +8,7 @@ use lib.ListN.{length, getD, take}
 use borrow.Author.Tests.{eq-eqb, ne-eqb}
 use Rattle.facts.specs.Lists.{total, At, here, there}
 use Rattle.task.specs.Task.{Node, edgeAt}
-use Rattle.compile.specs.Compile.{edgeCount}
+use Rattle.compilation.specs.Compile.{edgeCount}
 use Rattle.carry.specs.Carry.{pathSteps}
 
 module _ (s : List ℕ) where

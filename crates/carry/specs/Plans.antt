@@ -5,7 +5,7 @@ use Prim.Native.Nat.{ℕ, _≤_}
 use mathlib.Core.List.{List}
 use Rattle.task.specs.Task.{Task, Plan, WfTask}
 use Rattle.probe.specs.Probe.{ProbePlan}
-use Rattle.compile.specs.Compile.{probeOf}
+use Rattle.compilation.specs.Compile.{probeOf}
 use Rattle.carry.specs.Carry.{expand, contract}
 use Rattle.carry.specs.Forward.{forward}
 use Rattle.carry.specs.Backward.{backward}

@@ -16,9 +16,9 @@ use Rattle.facts.specs.Partial.{Partial, holds, apply, empty}
 use Rattle.facts.specs.PartialLaws.{length-apply, inside-length, apply-inside, Below, wf-below, holds-empty, apply-empty}
 use Rattle.facts.specs.State.{Inside}
 use Rattle.task.specs.Task.{Edge, Action, Task, WfAction, WfTask}
-use Rattle.compile.specs.Extend.{extend}
-use Rattle.compile.specs.Compile.{variables, marker, startStep, edgeStep, endStep}
-use Rattle.compile.specs.ExtendLaws.{below-empty, below-more, holds-append, apply-append, below-extend, holds-extend, apply-extend}
+use Rattle.compilation.specs.Extend.{extend}
+use Rattle.compilation.specs.Compile.{variables, marker, startStep, edgeStep, endStep}
+use Rattle.compilation.specs.ExtendLaws.{below-empty, below-more, holds-append, apply-append, below-extend, holds-extend, apply-extend}
 
 set-append-add : (s z : List ℕ) (k v : ℕ) → set (s ++ z) (length s + k) v ≡ s ++ set z k v
 set-append-add [] z k v = rw zero-add

@@ -9,8 +9,8 @@ use Rattle.facts.specs.Lists.{total, At, here, there}
 use Rattle.facts.specs.ListLaws.{at-none}
 use Rattle.task.specs.Task.{Edge, Node, Action, Task}
 use Rattle.probe.specs.Probe.{Step}
-use Rattle.compile.specs.Compile.{flat, variables, startStep, edgeStep, endStep, nodeSteps, actionSteps, stepsOf, edgeCount, stepCount}
-use Rattle.compile.specs.StepLaws.{node-length, nodes-length, action-length}
+use Rattle.compilation.specs.Compile.{flat, variables, startStep, edgeStep, endStep, nodeSteps, actionSteps, stepsOf, edgeCount, stepCount}
+use Rattle.compilation.specs.StepLaws.{node-length, nodes-length, action-length}
 use Rattle.carry.specs.Carry.{firstStep}
 use Rattle.carry.specs.ListLaws.{at-left, at-right, at-split, mapFrom-at, mapFrom-inv, flat-at, flat-inv}
 

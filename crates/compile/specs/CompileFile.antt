@@ -10,7 +10,7 @@ use Rattle.task.specs.TaskFile.{readTask}
 use Rattle.probe.specs.ProbeFile.{writeProbe}
 use Rattle.compile.specs.declared.Compiled.{Compiled}
 use Rattle.compile.specs.declared.Compiled.the-variants.{Length, Refused as NotCompiled}
-use Rattle.compile.specs.Compile.{probeOf}
+use Rattle.compilation.specs.Compile.{probeOf}
 
 -- the length of what is written into a buffer that has room for so many bytes: 1 to 6 for the file, then 7 with the length needed
 unfoldable pub compileFile : List ℕ → ℕ → Read ℕ

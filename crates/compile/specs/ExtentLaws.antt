@@ -15,9 +15,9 @@ use Rattle.task.specs.Task.{Action}
 use Rattle.task.specs.WalkInPlace.{nodeCount}
 use Rattle.task.specs.MoveInPlaceLaws.{own-nodes}
 use Rattle.probe.specs.Probe.{Step}
-use Rattle.compile.specs.Compile.{flat, actionSteps, edgeCount}
-use Rattle.compile.specs.StepLaws.{total-append, action-length}
-use Rattle.compile.specs.CompiledLengthLaws.{stepBytes, action-total}
+use Rattle.compilation.specs.Compile.{flat, actionSteps, edgeCount}
+use Rattle.compilation.specs.StepLaws.{total-append, action-length}
+use Rattle.compilation.specs.CompiledLengthLaws.{stepBytes, action-total}
 use Rattle.compile.specs.InPlace.{nodesIn, actionIn, actionsIn, Stands, Stood}
 use Rattle.compile.specs.InPlaceLaws.{stepsLeft, left-next}
 

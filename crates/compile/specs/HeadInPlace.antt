@@ -5,7 +5,7 @@ use lib.ListN.{length, take, drop, replicate}
 use Rattle.facts.specs.Bytes.{bytesOf}
 use Rattle.facts.specs.Partial.{Partial, partialAt, writePartial}
 use Rattle.task.specs.WalkInPlace.{nodeCount}
-use Rattle.compile.specs.Extend.{clear}
+use Rattle.compilation.specs.Extend.{clear}
 
 module _ (f : List ℕ) where
   -- the number of values of each action's marker: `actions` has the offset of each action

@@ -11,7 +11,7 @@ use Rattle.facts.specs.Bytes.{bytesOf}
 use Rattle.facts.specs.Partial.{Partial, writePartial}
 use Rattle.facts.specs.Write.{Wrote}
 use Rattle.task.specs.WalkInPlace.{nodeCount}
-use Rattle.compile.specs.Extend.{extend, clear}
+use Rattle.compilation.specs.Extend.{extend, clear}
 use Rattle.compile.specs.InPlace.{widened}
 use Rattle.compile.specs.HeadInPlace.{markersIn, sizesIn, initIn, goalIn, headIn}
 use Rattle.compile.specs.PutLaws.{Cut, Going, going-start}

@@ -8,8 +8,8 @@ use Rattle.task.specs.TaskFile.{edgeBytes}
 use Rattle.facts.specs.Fields.{wordAt}
 use Rattle.task.specs.WalkInPlace.{incomingPlace, nodeCount}
 use Rattle.probe.specs.Probe.{Step}
-use Rattle.compile.specs.Extend.{extend}
-use Rattle.compile.specs.Compile.{marker}
+use Rattle.compilation.specs.Extend.{extend}
+use Rattle.compilation.specs.Compile.{marker}
 
 -- p with further facts, whose bits and values these are
 abbrev pub widened : Partial → ℕ → List ℕ → Partial

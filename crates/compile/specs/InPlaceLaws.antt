@@ -13,7 +13,7 @@ use Rattle.facts.specs.Write.{Wrote}
 use Rattle.facts.specs.Fields.{writeEach}
 use Rattle.probe.specs.Probe.{Step}
 use Rattle.probe.specs.ProbeFile.{writeStep}
-use Rattle.compile.specs.Compile.{mapFrom, flat, edgeStep, endStep, nodeSteps, actionSteps, edgeCount}
+use Rattle.compilation.specs.Compile.{mapFrom, flat, edgeStep, endStep, nodeSteps, actionSteps, edgeCount}
 use Rattle.compile.specs.InPlace.{edgeIn, edgesIn, nodeIn, nodesIn, actionIn, actionsIn, startIn, endIn}
 use Rattle.compile.specs.PutLaws.{Cut, Going, going-start}
 

@@ -11,8 +11,8 @@ use Rattle.task.specs.Task.{Task, maxBytes}
 use Rattle.task.specs.TaskFile.{readTask}
 use Rattle.task.specs.FrontLaws.{front-enough}
 use Rattle.probe.specs.ProbeFile.{writeProbe}
-use Rattle.compile.specs.Compile.{probeOf}
-use Rattle.compile.specs.CompiledLengthLaws.{compiled-length}
+use Rattle.compilation.specs.Compile.{probeOf}
+use Rattle.compilation.specs.CompiledLengthLaws.{compiled-length}
 use Rattle.compile.specs.CompileFile.{compileFile, compiledBuffer}
 
 -- The answer for the first 3,827 bytes of an input is the answer for all of it, and so is what is written.

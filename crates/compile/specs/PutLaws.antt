@@ -17,8 +17,8 @@ use Rattle.facts.specs.Fields.{readNumber, wordAt, writeOperator}
 use Rattle.facts.specs.FieldLaws.{number-read}
 use Rattle.task.specs.WalkInPlace.{incomingPlace}
 use Rattle.probe.specs.ProbeFile.{writeStep}
-use Rattle.compile.specs.Extend.{extend}
-use Rattle.compile.specs.Compile.{marker, edgeStep}
+use Rattle.compilation.specs.Extend.{extend}
+use Rattle.compilation.specs.Compile.{marker, edgeStep}
 use Rattle.compile.specs.InPlace.{widened, edgeIn, startIn, endIn}
 
 -- What fits is written whole.

@@ -33,10 +33,10 @@ use Rattle.task.specs.MoveInPlaceLaws.{located-actions}
 use Rattle.task.specs.AnswerLaws.{there as task-there, starts, starts-count}
 use Rattle.probe.specs.Probe.{Step}
 use Rattle.probe.specs.ProbeFile.{writeStep, writeProbe}
-use Rattle.compile.specs.Compile.{flat, variables, actionSteps, stepsOf, markerSize, probeOf}
-use Rattle.compile.specs.StepLaws.{total-at}
-use Rattle.compile.specs.CompiledLaws.{allSizes, sizes-length}
-use Rattle.compile.specs.CompiledLengthLaws.{stepBytes, probe-written, clear-length}
+use Rattle.compilation.specs.Compile.{flat, variables, actionSteps, stepsOf, markerSize, probeOf}
+use Rattle.compilation.specs.StepLaws.{total-at}
+use Rattle.compilation.specs.CompiledLaws.{allSizes, sizes-length}
+use Rattle.compilation.specs.CompiledLengthLaws.{stepBytes, probe-written, clear-length}
 use Rattle.compile.specs.HeadInPlace.{markersIn, headIn}
 use Rattle.compile.specs.InPlace.{edgeIn, edgesIn, nodeIn, nodesIn, actionIn, actionsIn, Stands, Tests, Stood}
 use Rattle.compile.specs.CompileFile.{compileFile, compiledBuffer}

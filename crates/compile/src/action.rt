@@ -11,7 +11,7 @@ ghost use lib.ListN.{length, getD, drop};
 ghost use Rattle.facts.specs.Fields.{writeEach};
 ghost use Rattle.facts.specs.Write.{Wrote};
 ghost use Rattle.probe.specs.ProbeFile.{writeStep};
-ghost use Rattle.compile.specs.Compile.{flat, nodeSteps, actionSteps};
+ghost use Rattle.compilation.specs.Compile.{flat, nodeSteps, actionSteps};
 ghost use Rattle.compile.specs.InPlace.{nodeIn, nodesIn, actionIn, actionsIn, Tests, Stood};
 
 // The bytes of an edge, target and weight.

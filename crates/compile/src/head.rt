@@ -14,7 +14,7 @@ ghost use Rattle.facts.specs.Bytes.{bytesOf};
 ghost use Rattle.facts.specs.Partial.{partialAt, partialBytes, writePartial};
 ghost use Rattle.facts.specs.Write.{Wrote};
 ghost use Rattle.task.specs.WalkInPlace.{nodeCount};
-ghost use Rattle.compile.specs.Extend.{clear};
+ghost use Rattle.compilation.specs.Extend.{clear};
 ghost use Rattle.compile.specs.InPlace.{Stands};
 ghost use Rattle.compile.specs.HeadInPlace.{markersIn, sizesIn, initIn, goalIn, headIn};
 

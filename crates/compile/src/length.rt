@@ -9,8 +9,8 @@ ghost use lib.ListN.{length, getD, drop};
 ghost use Rattle.facts.specs.Lists.{total};
 ghost use Rattle.facts.specs.Partial.{partialAt, partialBytes, pastPartial};
 ghost use Rattle.task.specs.WalkInPlace.{nodeCount};
-ghost use Rattle.compile.specs.Compile.{flat, actionSteps, edgeCount};
-ghost use Rattle.compile.specs.CompiledLengthLaws.{stepBytes};
+ghost use Rattle.compilation.specs.Compile.{flat, actionSteps, edgeCount};
+ghost use Rattle.compilation.specs.CompiledLengthLaws.{stepBytes};
 ghost use Rattle.compile.specs.InPlace.{nodesIn, actionsIn, Stood};
 
 // The bytes of an edge's step: three facts, two maps and a cost.

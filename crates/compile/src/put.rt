@@ -7,7 +7,7 @@ ghost use lib.ListN.{length};
 ghost use Rattle.facts.specs.Bytes.{bytesOf};
 ghost use Rattle.facts.specs.Partial.{writePartial, partialAt, partialBytes, empty};
 ghost use Rattle.facts.specs.Write.{Wrote};
-ghost use Rattle.compile.specs.Extend.{extend};
+ghost use Rattle.compilation.specs.Extend.{extend};
 ghost use Rattle.compile.specs.InPlace.{widened};
 
 // One byte.

@@ -12,8 +12,8 @@ ghost use lib.ListN.{length};
 ghost use Rattle.facts.specs.Partial.{partialAt, writePartial, pastPartial};
 ghost use Rattle.facts.specs.Write.{Wrote};
 ghost use Rattle.probe.specs.ProbeFile.{writeStep};
-ghost use Rattle.compile.specs.Extend.{extend};
-ghost use Rattle.compile.specs.Compile.{edgeStep};
+ghost use Rattle.compilation.specs.Extend.{extend};
+ghost use Rattle.compilation.specs.Compile.{edgeStep};
 ghost use Rattle.compile.specs.InPlace.{edgeIn, startIn, endIn, Stands};
 
 // The partial state at an offset, with semaphore and marker of action a at 0.

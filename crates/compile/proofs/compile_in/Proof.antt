@@ -10,9 +10,9 @@ use Rattle.facts.specs.Write.{Wrote}
 use Rattle.task.specs.TaskReadLaws.{task-wf, task-limits}
 use Rattle.task.specs.AnswerLaws.{There, there, Starts, starts}
 use Rattle.probe.specs.ProbeFile.{writeProbe}
-use Rattle.compile.specs.Compile.{probeOf}
-use Rattle.compile.specs.StepLaws.{steps-most}
-use Rattle.compile.specs.CompiledLengthLaws.{compiled-length}
+use Rattle.compilation.specs.Compile.{probeOf}
+use Rattle.compilation.specs.StepLaws.{steps-most}
+use Rattle.compilation.specs.CompiledLengthLaws.{compiled-length}
 use Rattle.compile.specs.TaskInPlaceLaws.{actions-stood, steps-in-place, goal-stands, file-length, front-room, front-inside, steps-room, file-wrote, compile-short, compile-wrote}
 use borrow.Author.Needs.{needs}
 use native.Mathlib.Omega.{arith}

@@ -8,7 +8,7 @@ use denote.Ref.{now}
 use Rattle.facts.specs.Fields.{writeEach}
 use Rattle.facts.specs.WriteLaws.{wrote-inside, wrote-room, wrote-then}
 use Rattle.probe.specs.ProbeFile.{writeStep}
-use Rattle.compile.specs.Compile.{flat, nodeSteps}
+use Rattle.compilation.specs.Compile.{flat, nodeSteps}
 use Rattle.compile.specs.InPlace.{nodesIn, startIn, endIn, Tests}
 use Rattle.compile.specs.InPlaceLaws.{action-long, wrote-action}
 use borrow.Author.Needs.{needs}

@@ -8,7 +8,7 @@ use denote.Ref.{now}
 use Rattle.facts.specs.Fields.{writeEach}
 use Rattle.task.specs.MoveInPlaceLaws.{own-nodes}
 use Rattle.probe.specs.ProbeFile.{writeStep}
-use Rattle.compile.specs.Compile.{flat, actionSteps}
+use Rattle.compilation.specs.Compile.{flat, actionSteps}
 use Rattle.compile.specs.InPlace.{actionIn, actionsIn, Stood}
 use Rattle.compile.specs.PutLaws.{Going, Cut, going-inside, going-same, going-room, going-more, going-end}
 use Rattle.compile.specs.InPlaceLaws.{actionsFrom, actions-start, actions-cut, actions-none}

@@ -7,7 +7,7 @@ use lib.ListN.{length}
 use denote.Ref.{now}
 use Rattle.facts.specs.Fields.{writeEach}
 use Rattle.probe.specs.ProbeFile.{writeStep}
-use Rattle.compile.specs.Compile.{flat, nodeSteps}
+use Rattle.compilation.specs.Compile.{flat, nodeSteps}
 use Rattle.compile.specs.InPlace.{nodeIn, nodesIn, Tests}
 use Rattle.compile.specs.PutLaws.{Cut, Going, going-inside, going-same, going-room, going-more, going-end}
 use Rattle.compile.specs.InPlaceLaws.{nodesFrom, nodes-start, nodes-cut, nodes-none}

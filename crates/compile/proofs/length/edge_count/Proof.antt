@@ -4,7 +4,7 @@ use mathlib.Core.Path.{_≡_}
 use native.Mathlib.Omega.{arith}
 use denote.Ref.{now}
 use Rattle.facts.specs.Lists.{total}
-use Rattle.compile.specs.Compile.{edgeCount}
+use Rattle.compilation.specs.Compile.{edgeCount}
 use Rattle.compile.specs.InPlace.{nodesIn}
 use Rattle.compile.specs.InPlaceLaws.{edges-start, edges-left, edges-none}
 use borrow.Author.Needs.{needs}

@@ -3,7 +3,7 @@ use Prim.Native.Nat.{_*_, _-_, _≤_}
 use native.Mathlib.Omega.{arith}
 use lib.ListN.{length, getD, drop}
 use denote.Ref.{now}
-use Rattle.compile.specs.Compile.{flat, actionSteps}
+use Rattle.compilation.specs.Compile.{flat, actionSteps}
 use Rattle.compile.specs.InPlace.{actionsIn, Stood}
 use Rattle.compile.specs.InPlaceLaws.{stepsLeft, left-start, left-none}
 use Rattle.compile.specs.ExtentLaws.{Counted, counted-start, counted-action, counted-end}

@@ -7,7 +7,7 @@ use denote.Ref.{now}
 use Rattle.facts.specs.Partial.{writePartial, empty}
 use Rattle.facts.specs.PartialLaws.{length-written}
 use Rattle.facts.specs.WriteLaws.{wrote-inside, wrote-room, wrote-then}
-use Rattle.compile.specs.Extend.{extend}
+use Rattle.compilation.specs.Extend.{extend}
 use Rattle.compile.specs.PutLaws.{wrote-edge}
 use borrow.Author.Needs.{needs}
 use Rattle.compile.proofs.step.put_edge.Statement.{statement}

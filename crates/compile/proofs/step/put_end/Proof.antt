@@ -7,8 +7,8 @@ use denote.Ref.{now}
 use Rattle.facts.specs.Partial.{Partial, partialAt, writePartial, empty, pastPartial}
 use Rattle.facts.specs.PartialLaws.{length-written}
 use Rattle.facts.specs.WriteLaws.{wrote-inside, wrote-room, wrote-then}
-use Rattle.compile.specs.Extend.{extend}
-use Rattle.compile.specs.CompiledLengthLaws.{step-written}
+use Rattle.compilation.specs.Extend.{extend}
+use Rattle.compilation.specs.CompiledLengthLaws.{step-written}
 use Rattle.compile.specs.InPlace.{endIn, Stands}
 use Rattle.facts.specs.InPlaceLaws.{past-is}
 use Rattle.compile.specs.PutLaws.{wrote-end}

@@ -9,7 +9,7 @@ use lib.ListN.{length, getD, set, length-append}
 use lib.Seq.{append-snoc, getD-append-seam}
 use Rattle.facts.specs.Partial.{Partial, agrees, after, rest, above, holds, apply, empty}
 use Rattle.facts.specs.PartialLaws.{Has, Below, holds-empty, apply-empty}
-use Rattle.compile.specs.Extend.{extend, clear}
+use Rattle.compilation.specs.Extend.{extend, clear}
 
 -- A test that always passes changes nothing.
 pub and-true : (a : Bool) → (a && true) ≡ a

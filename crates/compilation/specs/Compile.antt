@@ -6,7 +6,7 @@ use Rattle.facts.specs.Lists.{total}
 use Rattle.facts.specs.Partial.{empty}
 use Rattle.task.specs.Task.{Edge, Node, Action, Task}
 use Rattle.probe.specs.Probe.{Step, Probe}
-use Rattle.compile.specs.Extend.{extend, clear}
+use Rattle.compilation.specs.Extend.{extend, clear}
 
 -- f at each element and its number, the first one's being k; what it gives for each straight after the last one's
 abbrev pub mapFrom : {A B : Type 0} → (ℕ → A → B) → ℕ → List A → List B

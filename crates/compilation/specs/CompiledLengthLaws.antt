@@ -18,10 +18,10 @@ use Rattle.task.specs.DiagramReadLaws.{Small}
 use Rattle.task.specs.TaskReadLaws.{task-wf, task-limits}
 use Rattle.probe.specs.Probe.{Step, Probe}
 use Rattle.probe.specs.ProbeFile.{writeStep, writeProbe}
-use Rattle.compile.specs.Extend.{extend, clear}
-use Rattle.compile.specs.Compile.{mapFrom, flat, variables, startStep, edgeStep, endStep, nodeSteps, actionSteps, stepsOf, edgeCount, probeOf}
-use Rattle.compile.specs.StepLaws.{at-all, total-append, action-edges}
-use Rattle.compile.specs.CompiledLaws.{sizes-length}
+use Rattle.compilation.specs.Extend.{extend, clear}
+use Rattle.compilation.specs.Compile.{mapFrom, flat, variables, startStep, edgeStep, endStep, nodeSteps, actionSteps, stepsOf, edgeCount, probeOf}
+use Rattle.compilation.specs.StepLaws.{at-all, total-append, action-edges}
+use Rattle.compilation.specs.CompiledLaws.{sizes-length}
 
 -- ---- a step
 

@@ -22,10 +22,10 @@ use Rattle.task.specs.TaskReadLaws.{task-wf, task-limits, task-weights}
 use Rattle.probe.specs.Probe.{WfStep, WfProbe}
 use Rattle.probe.specs.ProbeFile.{readProbe, writeProbe}
 use Rattle.probe.specs.ProbeLaws.{read-written}
-use Rattle.compile.specs.Extend.{extend, clear}
-use Rattle.compile.specs.Compile.{flat, variables, marker, startStep, edgeStep, endStep, nodeSteps, actionSteps, stepsOf, markerSize, probeOf}
-use Rattle.compile.specs.ExtendLaws.{below-empty, below-more, above-extend, below-extend, extend-bit}
-use Rattle.compile.specs.StepLaws.{at-all, all-append, all-map, all-getD, map-at, mapFrom-all, flat-all, total-at, steps-most}
+use Rattle.compilation.specs.Extend.{extend, clear}
+use Rattle.compilation.specs.Compile.{flat, variables, marker, startStep, edgeStep, endStep, nodeSteps, actionSteps, stepsOf, markerSize, probeOf}
+use Rattle.compilation.specs.ExtendLaws.{below-empty, below-more, above-extend, below-extend, extend-bit}
+use Rattle.compilation.specs.StepLaws.{at-all, all-append, all-map, all-getD, map-at, mapFrom-all, flat-all, total-at, steps-most}
 
 -- ---- values inside their domains
 

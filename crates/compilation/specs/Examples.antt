@@ -7,8 +7,8 @@ use Rattle.facts.specs.Fields.{writeOperator, writeHead}
 use Rattle.task.specs.Examples.{P}
 use Rattle.probe.specs.ProbeFile.{writeStep, writeProbe}
 use Rattle.probe.specs.Examples.{P-file, P-probe}
-use Rattle.compile.specs.Extend.{extend, clear}
-use Rattle.compile.specs.Compile.{stepsOf, probeOf}
+use Rattle.compilation.specs.Extend.{extend, clear}
+use Rattle.compilation.specs.Compile.{stepsOf, probeOf}
 
 -- Variable 1 at 5 and variable 3 at 7: bits 1 and 3, lowest first.
 two-facts : extend (extend empty 1 5) 3 7 ≡ record { map = 10; values = 5 ∷ 7 ∷ [] }

@@ -7,7 +7,7 @@ use lib.ListN.{length, getD, length-append}
 use Rattle.facts.specs.Lists.{total, All, At, here, there}
 use Rattle.task.specs.Task.{Node, Action, Task, WfAction, WfTask, Limits}
 use Rattle.task.specs.DiagramReadLaws.{Small}
-use Rattle.compile.specs.Compile.{mapFrom, flat, variables, edgeStep, endStep, nodeSteps, actionSteps, stepsOf, edgeCount, stepCount}
+use Rattle.compilation.specs.Compile.{mapFrom, flat, variables, edgeStep, endStep, nodeSteps, actionSteps, stepsOf, edgeCount, stepCount}
 
 -- ---- a property of each element
 

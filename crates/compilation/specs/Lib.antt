@@ -1,0 +1,10 @@
+-- Definitions.
+pub mod Extend
+pub mod Compile
+-- The document's example, computed.
+pub mod Examples
+-- Laws.
+pub mod ExtendLaws
+pub mod StepLaws
+pub mod CompiledLaws
+pub mod CompiledLengthLaws
