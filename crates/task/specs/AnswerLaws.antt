@@ -1,6 +1,6 @@
 -- Laws of what the operations answer on an accepted file, by its index.
 use mathlib.Core.Path.{_≡_, refl, sym, ap, _∙_}
-use mathlib.Core.Option.{none, some}
+use mathlib.Core.Option.{none}
 use Prim.Native.Nat.{ℕ, zero, suc, _+_, _*_, _≤_, _<_}
 use native.Mathlib.Omega.{arith}
 use mathlib.Core.List.{List, [], _∷_}
@@ -10,22 +10,20 @@ use Rattle.facts.specs.Read.{Read, accepted, refused, _>>=_}
 use Rattle.facts.specs.ReadLaws.{made, not-made}
 use Rattle.facts.specs.Lists.{At}
 use Rattle.facts.specs.ListLaws.{at-getD, look}
-use Rattle.facts.specs.Partial.{Partial, partialAt}
-use Rattle.facts.specs.State.{Inside, checkState}
+use Rattle.facts.specs.Partial.{partialAt}
+use Rattle.facts.specs.State.{checkState}
 use Rattle.facts.specs.StateLaws.{state-inside}
-use Rattle.facts.specs.Run.{runFrom, atMost}
-use Rattle.facts.specs.RunLaws.{list-long, list-fits}
-use Rattle.facts.specs.Fields.{readPartial}
+use Rattle.facts.specs.Run.{atMost}
 use Rattle.facts.specs.PartialReadLaws.{partial-read}
 use Rattle.facts.specs.HeadLaws.{head-read}
 use Rattle.task.specs.declared.Task.{Task as Index}
-use Rattle.task.specs.Task.{Action, Task, Walk, maxList, walk, taskSum}
+use Rattle.task.specs.Task.{Action, Task, Walk, maxList}
 use Rattle.task.specs.TaskFile.{readTask, checkTask, actionOf, costTask, runTask}
 use Rattle.task.specs.TaskReadLaws.{task-read, task-limits}
-use Rattle.task.specs.WalkInPlace.{walkAt, moveAt, Front, Fronts}
+use Rattle.task.specs.WalkInPlace.{walkAt, moveAt, runList}
 use Rattle.task.specs.WalkInPlaceLaws.{walk-in-place}
-use Rattle.task.specs.MoveInPlaceLaws.{located-front, located-actions, located-fronts, sum-in-place}
-use Rattle.task.specs.InPlace.{taskAt, Located}
+use Rattle.task.specs.MoveInPlaceLaws.{located-actions, sum-in-place}
+use Rattle.task.specs.InPlace.{taskAt}
 use Rattle.task.specs.Index.{Ready}
 
 look-none : {A : Type 0} (xs : List A) (k : ℕ) → length xs ≤ k → getElem? xs k ≡ none
@@ -41,10 +39,6 @@ cost-refused f a s h = rw (not-made (λ (t : Task). tt) (readTask f) h)
 pub run-refused : (f list : List ℕ) {n p : ℕ} → checkTask f ≡ refused n p → runTask f list ≡ refused n p
 unfolding checkTask runTask
 run-refused f list h = rw (not-made (λ (t : Task). tt) (readTask f) h)
-
-pub run-long : (f list : List ℕ) → checkTask f ≡ accepted tt → maxList < length list → runTask f list ≡ refused 8 maxList
-unfolding checkTask runTask
-run-long f list h l = rw (made (λ (t : Task). tt) (readTask f) h .answer, list-long maxList list l)
 
 module _ (f : List ℕ) {i : Index} (ready : Ready f i) where
   -- the task that is there
@@ -112,9 +106,6 @@ module _ (f : List ℕ) {i : Index} (ready : Ready f i) where
       unfolding actionOf
       x-is = rw (look x-there, actionOf)
 
-      pub cost-front : Front f (getD (i .starts) a 0)
-      cost-front = located-front f (there .reads) (ready .located) x-there
-
       pub cost-state : {n p k : ℕ} → k ≡ i .variables → checkState (take k (drop 1 f)) s ≡ refused n p → costTask f a s ≡ refused n p
       unfolding costTask
       cost-state {n} {p} {k} e h =
@@ -130,13 +121,10 @@ module _ (f : List ℕ) {i : Index} (ready : Ready f i) where
 
   -- ---- runs
 
-  pub run-fronts : Fronts f (take (i .actions) (i .starts))
-  run-fronts = located-fronts f (there .reads) (located-actions f (there .reads) (ready .located) (i .actions) (omega (arith, there .actions))) starts-count
-
-  pub run-is : (list : List ℕ) → length list ≤ maxList
+  pub run-is : (list : List ℕ)
       → runTask f list
-      ≡ runFrom (length (take (i .actions) (i .starts))) (moveAt f (take (i .actions) (i .starts)) (i .firsts) (i .nodes)) (partialAt f (1 + 2 * i .variables)) 0 0 list (take (i .variables) (drop (1 + i .variables) f))
-  unfolding runTask
-  run-is list l =
-      rw (there .reads, list-fits maxList list l)
-      (sym (sum-in-place f (there .reads) (located-actions f (there .reads) (ready .located) (i .actions) (omega (arith, there .actions))) starts-count (1 + 2 * i .variables) list (take (i .variables) (drop (1 + i .variables) f)) (starts .init) (starts .goal)))
+      ≡ runList (length (take (i .actions) (i .starts))) (moveAt f (take (i .actions) (i .starts)) (i .firsts) (i .nodes)) (partialAt f (1 + 2 * i .variables)) list (take (i .variables) (drop (1 + i .variables) f))
+  unfolding runTask runList
+  run-is list =
+      rw (there .reads)
+      (ap (λ (sum : Read ℕ). _>>=_ (atMost maxList list) (λ u. sum)) (sym (sum-in-place f (there .reads) (located-actions f (there .reads) (ready .located) (i .actions) (omega (arith, there .actions))) starts-count (1 + 2 * i .variables) list (take (i .variables) (drop (1 + i .variables) f)) (starts .init) (starts .goal))))

@@ -1,13 +1,15 @@
 -- What the answers of the code mean.
 use Prim.Native.Nat.{ℕ}
 use Rattle.facts.specs.Refusal.{number, place}
-use Rattle.facts.specs.Read.{Read, accepted, refused}
+use Rattle.facts.specs.Read.{Read, accepted, refused, withValue}
+use Rattle.facts.specs.Answers.{ranAnswer}
 use Rattle.task.specs.declared.Drawn.{Drawn}
 use Rattle.task.specs.declared.Drawn.the-variants.{Next as NextField, Refused as NotDrawn}
 use Rattle.task.specs.declared.Counted.{Counted}
 use Rattle.task.specs.declared.Counted.the-variants.{Actions, Refused as NotCounted}
 use Rattle.task.specs.declared.Costed.{Costed}
 use Rattle.task.specs.declared.Costed.the-variants.{Cost, Refused as NotCosted}
+use Rattle.task.specs.declared.action.Run.{Run}
 
 -- the offset past a diagram or an action, and how many nodes it has
 abbrev pub drawnAnswer : Drawn → Read (ℕ × ℕ)
@@ -23,3 +25,7 @@ countedAnswer (NotCounted why) = refused (number why) (place why)
 abbrev pub costedAnswer : Costed → Read ℕ
 costedAnswer (Cost cost) = accepted cost
 costedAnswer (NotCosted why) = refused (number why) (place why)
+
+-- how many nodes the walks of a run pass, where it has a sum
+abbrev pub passedAnswer : Run → Read ℕ
+passedAnswer r = withValue (λ sum. r .passed) (ranAnswer (r .answer))

@@ -119,6 +119,10 @@ perform x s = attempt (x .pre) (x .eff) (cost x s) s
 unfoldable pub actionMove : List Action → ℕ → List ℕ → Move
 actionMove actions a s = elim (getElem? actions a) [ none ↦ blocked | some x ↦ perform x s ]
 
+-- what action number a does in the state s, with the number of nodes that its walk passes in place of the cost
+unfoldable pub actionPasses : List Action → ℕ → List ℕ → Move
+actionPasses actions a s = elim (getElem? actions a) [ none ↦ blocked | some x ↦ attempt (x .pre) (x .eff) (walk x s .passed) s ]
+
 -- the sum of a list of any length, run from the initial state, or the refusal
 unfoldable pub taskSum : Task → List ℕ → Read ℕ
 taskSum t list = runFrom (length (t .actions)) (actionMove (t .actions)) (t .goal) 0 0 list (t .init)

@@ -14,9 +14,9 @@ use Rattle.facts.specs.Bytes.{Bytes}
 use Rattle.facts.specs.Partial.{holds, apply}
 use Rattle.facts.specs.PartialLaws.{apply-inside}
 use Rattle.facts.specs.State.{Inside}
-use Rattle.facts.specs.Run.{Move, next, blocked}
+use Rattle.facts.specs.Run.{Move, next, blocked, attempt}
 use Rattle.facts.specs.RunLaws.{attempt-next, attempt-blocked, not-blocked, plan-answers}
-use Rattle.task.specs.Task.{Action, Task, maxVariables, maxCost, walk, cost, perform, actionMove, taskSum, Plan, WfAction}
+use Rattle.task.specs.Task.{Action, Task, maxVariables, maxCost, walk, cost, perform, actionMove, actionPasses, taskSum, Plan, WfAction}
 use Rattle.task.specs.TaskFile.{readTask}
 use Rattle.task.specs.WalkLaws.{passed-most, cost-most}
 use Rattle.task.specs.TaskReadLaws.{task-wf, task-limits, task-weights}
@@ -26,6 +26,10 @@ use Rattle.task.specs.TaskReadLaws.{task-wf, task-limits, task-weights}
 pub move-at : (actions : List Action) {a : ℕ} {x : Action} (s : List ℕ) → At actions a x → actionMove actions a s ≡ perform x s
 unfolding actionMove
 move-at actions s h = rw (look h, actionMove)
+
+pub passes-at : (actions : List Action) {a : ℕ} {x : Action} (s : List ℕ) → At actions a x → actionPasses actions a s ≡ attempt (x .pre) (x .eff) (walk x s .passed) s
+unfolding actionPasses
+passes-at actions s h = rw (look h, actionPasses)
 
 -- what moves is one of the actions
 pub move-known : (actions : List Action) (a : ℕ) (s e : List ℕ) (c : ℕ) → actionMove actions a s ≡ next e c → a < length actions
@@ -44,12 +48,13 @@ task-plan t list c = plan-answers (length (t .actions)) (actionMove (t .actions)
 -- ---- an action x of a task with these domain sizes, in a state s inside them
 
 module _ {sizes : List ℕ} {x : Action} (wf : WfAction sizes x) (s : List ℕ) (inside : Inside sizes s) where
-  pub perform-inside : {e : List ℕ} {c : ℕ} → perform x s ≡ next e c → Inside sizes e
-  perform-inside {e} {c} h = go (holds (x .pre) s) refl
+  -- what it leads to is inside the domains too, whatever it costs
+  pub attempt-inside : (paid : ℕ) {e : List ℕ} {c : ℕ} → attempt (x .pre) (x .eff) paid s ≡ next e c → Inside sizes e
+  attempt-inside paid {e} {c} h = go (holds (x .pre) s) refl
     where
       go : (b : Bool) → holds (x .pre) s ≡ b → Inside sizes e
-      go true g = let same : apply (x .eff) s ≡ e = cc (attempt-next (x .pre) (x .eff) (cost x s) s g) in rw (← same) (apply-inside (x .eff) sizes s (wf .eff .values) inside)
-      go false g = absurd (not-blocked (sym (attempt-blocked (x .pre) (x .eff) (cost x s) s g) ∙ h))
+      go true g = let same : apply (x .eff) s ≡ e = cc (attempt-next (x .pre) (x .eff) paid s g) in rw (← same) (apply-inside (x .eff) sizes s (wf .eff .values) inside)
+      go false g = absurd (not-blocked (sym (attempt-blocked (x .pre) (x .eff) paid s g) ∙ h))
 
 -- ---- an action x of an accepted file f, in a state s inside the domains
 

@@ -1,13 +1,14 @@
--- Walks and moves in place: what code does that goes over the bytes of an accepted task file, without reading it into values.
-use Prim.Native.Nat.{ℕ, zero, suc, _+_, _*_, _-_, _≤_, _<_}
+-- Walks and moves in place: what code does that goes over the bytes of a task file, without reading it into values.
+use Prim.Native.Nat.{ℕ, zero, suc, _+_, _*_, _-_}
 use mathlib.Core.Bool.{true, false}
 use mathlib.Core.List.{List}
 use lib.Dec.{leb, ltb}
-use lib.ListN.{length, getD, drop}
-use Rattle.facts.specs.Partial.{partialAt, pastPartial}
+use lib.ListN.{getD, drop}
+use Rattle.facts.specs.Read.{Read, _>>=_}
+use Rattle.facts.specs.Partial.{Partial, partialAt, pastPartial}
 use Rattle.facts.specs.Fields.{wordAt}
-use Rattle.facts.specs.Run.{Move, attempt}
-use Rattle.task.specs.Task.{Edge, Walk, arrived, along, maxNodes, maxWeight}
+use Rattle.facts.specs.Run.{Move, attempt, runFrom, atMost}
+use Rattle.task.specs.Task.{Edge, Walk, arrived, along, maxWeight, maxList}
 use Rattle.task.specs.TaskFile.{edgeBytes}
 
 -- ---- the parts of an action at an offset
@@ -53,25 +54,40 @@ walkAt f at nodes s =
     let w = wayFrom f nodes (nodeCount f at) s 1 in
     record { cost = wordAt f (incomingPlace f at) + w .cost; passed = w .passed }
 
--- one cost, of any 64 nodes: the incoming weight, and an edge's for each node
+-- the nodes that one walk passes: how many an action has is one byte
+abbrev pub maxPassed : ℕ
+maxPassed = 255
+
+-- what one walk costs: the incoming weight, and an edge's for each node
 abbrev pub maxWalk : ℕ
-maxWalk = maxWeight * suc maxNodes
+maxWalk = maxWeight * suc maxPassed
 
 -- ---- moves
 
--- what the action at an offset does in the state s: it costs what its walk in s costs, the state before it
-unfoldable pub performAt : List ℕ → ℕ → List ℕ → List ℕ → Move
-performAt f at nodes s = attempt (partialAt f at) (partialAt f (pastPartial f at)) (walkAt f at nodes s .cost) s
+-- what the action at an offset does in the state s, with a measure of its walk in s, the state before it, as the cost
+unfoldable pub performBy : (Walk → ℕ) → List ℕ → ℕ → List ℕ → List ℕ → Move
+performBy measure f at nodes s = attempt (partialAt f at) (partialAt f (pastPartial f at)) (measure (walkAt f at nodes s)) s
 
--- what action number a does in the state s: `actions` has the offset of each action, `firsts` the index of its first node in `nodes`
-unfoldable pub moveAt : List ℕ → List ℕ → List ℕ → List ℕ → ℕ → List ℕ → Move
-moveAt f actions firsts nodes a s = performAt f (getD actions a 0) (drop (getD firsts a 0) nodes) s
+-- the same of action number a: `actions` has the offset of each action, `firsts` the index of its first node in `nodes`
+unfoldable pub moveBy : (Walk → ℕ) → List ℕ → List ℕ → List ℕ → List ℕ → ℕ → List ℕ → Move
+moveBy measure f actions firsts nodes a s = performBy measure f (getD actions a 0) (drop (getD firsts a 0) nodes) s
 
--- the action at an offset begins in the file and has at most 64 nodes
-pub record Front (f : List ℕ) (at : ℕ) : Type 0 where
-  pub fits : at ≤ length f
-  pub few : nodeCount f at ≤ maxNodes
+-- what the action at an offset does: it costs what its walk costs
+abbrev pub performAt : List ℕ → ℕ → List ℕ → List ℕ → Move
+performAt = performBy (λ w. w .cost)
 
--- each offset is that of an action
-pub record Fronts (f actions : List ℕ) : Type 0 where
-  pub front : (a : ℕ) → a < length actions → Front f (getD actions a 0)
+-- what action number a does
+abbrev pub moveAt : List ℕ → List ℕ → List ℕ → List ℕ → ℕ → List ℕ → Move
+moveAt = moveBy (λ w. w .cost)
+
+-- what action number a does, with the number of nodes that its walk passes in place of the cost
+abbrev pub passesAt : List ℕ → List ℕ → List ℕ → List ℕ → ℕ → List ℕ → Move
+passesAt = moveBy (λ w. w .passed)
+
+-- ---- runs
+
+-- the run of a list of at most 256 numbers from the state s: 8 for the list, then per number 11 before 9, and 10 at the end
+unfoldable pub runList : ℕ → (ℕ → List ℕ → Move) → Partial → List ℕ → List ℕ → Read ℕ
+runList count move goal list s = do
+  _ ← atMost maxList list
+  runFrom count move goal 0 0 list s

@@ -11,20 +11,22 @@ use borrow.Author.Tests.{le-leb, lt-leb, le-ltb, lt-ltb}
 use Rattle.facts.specs.Lists.{At}
 use Rattle.facts.specs.ListLaws.{at-length}
 use Rattle.facts.specs.BytesLaws.{number-one}
-use Rattle.facts.specs.Partial.{pastPartial}
+use Rattle.facts.specs.Partial.{partialAt, pastPartial}
+use Rattle.facts.specs.PartialLaws.{partial-cut}
 use Rattle.facts.specs.State.{Inside}
+use Rattle.facts.specs.Run.{attempt}
 use Rattle.facts.specs.Fields.{wordAt}
 use Rattle.facts.specs.PartialReadLaws.{Partial-read}
 use Rattle.facts.specs.FieldLaws.{Weighed, number-ends, count-read}
 use Rattle.facts.specs.InPlaceLaws.{word-cut, word-is, past-read}
 use Rattle.facts.specs.OperatorLaws.{Operator-read, operator-read}
-use Rattle.task.specs.Task.{Edge, Node, Action, edgeAt, Walk, arrived, along, walkFrom, walk, perform, WfAction}
+use Rattle.task.specs.Task.{Edge, Node, Action, edgeAt, Walk, arrived, along, walkFrom, walk, WfAction}
 use Rattle.task.specs.TaskFile.{edgeBytes}
 use Rattle.task.specs.InPlace.{Lies}
 use Rattle.task.specs.WalkLaws.{edge-there, edge-wf, walk-node, walk-terminal, walk-induction}
 use Rattle.task.specs.DiagramReadLaws.{Diagram-read, diagram-read, node-read, node-edge}
 use Rattle.task.specs.TaskReadLaws.{Action-read, action-read, action-wf}
-use Rattle.task.specs.WalkInPlace.{incomingPlace, nodeCount, edgeOf, edgeFrom, onward, wayUp, wayFrom, walkAt, performAt}
+use Rattle.task.specs.WalkInPlace.{incomingPlace, nodeCount, edgeOf, edgeFrom, onward, wayUp, wayFrom, walkAt, performBy}
 
 -- ---- the edge of the node at an offset
 
@@ -135,6 +137,28 @@ module _ (f : List ℕ) (at : ℕ) (nodes s : List ℕ) {effect incoming count :
   unfolding walkAt
   passed-is p = rw (← count-same) p
 
+-- ---- past the end of the file there is nothing
+
+past-on : (f : List ℕ) (at : ℕ) → at ≤ pastPartial f at
+unfolding pastPartial
+past-on f at = omega arith
+
+module _ (f : List ℕ) (at : ℕ) (past : length f < at) where
+  pub effect-none : partialAt f at ≡ partialAt f (pastPartial f at)
+  effect-none = partial-cut f at (omega arith) ∙ sym (partial-cut f (pastPartial f at) (omega (arith, past-on f at)))
+
+  incoming-past : length f < incomingPlace f at
+  unfolding incomingPlace
+  incoming-past = omega (arith, past-on f at, past-on f (pastPartial f at))
+
+  count-none : nodeCount f at ≡ 0
+  unfolding nodeCount
+  count-none = List·getD-eq-default f 0 (omega (arith, incoming-past))
+
+  pub walk-none : (nodes s : List ℕ) → (0 ≡ walkAt f at nodes s .cost) × (0 ≡ walkAt f at nodes s .passed)
+  unfolding walkAt
+  walk-none nodes s = rw (count-none, word-cut f (incomingPlace f at) (number-ends f 2 (incomingPlace f at) (omega (arith, incoming-past))), way-past f nodes 0 s 1 (omega arith)) (refl, refl)
+
 -- ---- an action x that is read at an offset of an accepted file, and its nodes at the offsets from index `first` on
 
 module _ (f : List ℕ) {sizes : List ℕ} {x : Action} {at first : ℕ} {all : List ℕ} (l : Lies f sizes x at first all) where
@@ -170,9 +194,6 @@ module _ (f : List ℕ) {sizes : List ℕ} {x : Action} {at first : ℕ} {all : 
       let c = count-read f 0 (l .left) (a .place) (d .count-is) in
       let e : incomingPlace f at + 2 ≡ a .place = omega (arith, incoming-is, o .weight .next) in
       rw e (sym (number-one f (a .place) (omega (arith, c .fits))) ∙ c .value)
-
-  pub lies-fits : at ≤ length f
-  lies-fits = omega (arith, o .pre .next, o .pre .fits)
 
   weight-is : wordAt f (incomingPlace f at) ≡ x .incoming
   weight-is = rw incoming-is (word-is f (o .place) (o .weight .fits) (o .weight .value))
@@ -216,6 +237,6 @@ module _ (f : List ℕ) {sizes : List ℕ} {x : Action} {at first : ℕ} {all : 
     unfolding walkAt walk
     walk-in-place = rw (count-is, weight-is, way-in-place)
 
-    pub perform-in-place : performAt f at (drop first all) s ≡ perform x s
-    unfolding performAt
-    perform-in-place = rw (walk-in-place, effect-is, ← o .pre .same, ← o .eff .same)
+    pub perform-in-place : (measure : Walk → ℕ) → performBy measure f at (drop first all) s ≡ attempt (x .pre) (x .eff) (measure (walk x s)) s
+    unfolding performBy
+    perform-in-place measure = rw (walk-in-place, effect-is, ← o .pre .same, ← o .eff .same)

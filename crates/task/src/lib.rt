@@ -1,16 +1,14 @@
 // Task files: read, costed and run.
-mod action;
+pub mod action;
 mod diagram;
 mod index;
-mod walk;
+pub mod walk;
 
 use facts::Checked;
 use facts::Ran;
 use facts::Refusal;
 use facts::number::offset_within;
 ghost use mathlib.Core.Path.{_≡_};
-ghost use Prim.Native.Nat.{_≤_};
-ghost use lib.ListN.{length};
 ghost use Rattle.facts.specs.Answers.{checkedAnswer, ranAnswer};
 ghost use Rattle.task.specs.TaskFile.{checkTask, costTask, runTask};
 ghost use Rattle.task.specs.Answers.{costedAnswer};
@@ -151,18 +149,15 @@ pub fn run(file: &[u8], list: &[u16]) -> Ran
     match answer {
         Checked::Refused(why) => Ran::Refused(why),
         Checked::Accepted => {
-            if Task::MAX_LIST < list.len() {
-                return Ran::Refused(Refusal::Long(Task::MAX_LIST));
-            }
             let task = indexed.task;
             run_in(file, task, list)
         }
     }
 }
 
-// The same, of a file that is accepted and a list within the limit: the run starts from a copy of the initial values.
+// The same, of a file that is accepted: the run starts from a copy of the initial values.
 fn run_in(file: &[u8], task: Task, list: &[u16]) -> Ran
-    requires { ⌜ Ready (now file) task × (length (now list) ≤ 256) ⌝ }
+    requires { ⌜ Ready (now file) task ⌝ }
     ensures { λ r. ⌜ ranAnswer r ≡ runTask (now (file .entry)) (now (list .entry)) ⌝ }
 {
     let variables = task.variables;
@@ -174,7 +169,7 @@ fn run_in(file: &[u8], task: Task, list: &[u16]) -> Ran
     let goal = init + variables;
     let mut state = [0; 24];
     bytes::copy(&file[init..goal], &mut state[..variables]);
-    action::run_list(
+    let run = action::run_list(
         file,
         goal,
         &starts[..actions],
@@ -182,5 +177,6 @@ fn run_in(file: &[u8], task: Task, list: &[u16]) -> Ran
         &nodes,
         list,
         &mut state[..variables],
-    )
+    );
+    run.answer
 }

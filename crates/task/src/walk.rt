@@ -5,8 +5,8 @@ use facts::number::word_at;
 use facts::partial::length_at;
 ghost use mathlib.Core.Path.{_≡_};
 ghost use Prim.Native.Nat.{_*_, _≤_};
-ghost use Rattle.task.specs.Task.{maxNodes, maxWeight};
-ghost use Rattle.task.specs.WalkInPlace.{edgeOf, wayFrom, walkAt, maxWalk, Front};
+ghost use Rattle.task.specs.Task.{maxWeight};
+ghost use Rattle.task.specs.WalkInPlace.{edgeOf, wayFrom, walkAt, maxPassed, maxWalk};
 
 // A walk: the weights of its edges added up, and the number of nodes that it passes.
 pub struct Walked {
@@ -26,9 +26,11 @@ impl Edge {
 
 // The walk of the action at an offset, whose own nodes begin at the offsets `nodes`.
 pub fn walk_at(file: &[u8], at: usize, nodes: &[usize], state: &[u8]) -> Walked
-    requires { ⌜ Front (now file) at ⌝ }
-    ensures { λ r. ⌜ (r .cost ≡ walkAt (now (file .entry)) at (now (nodes .entry)) (now (state .entry)) .cost) × (r .passed ≡ walkAt (now (file .entry)) at (now (nodes .entry)) (now (state .entry)) .passed) × (r .cost ≤ maxWalk) ⌝ }
+    ensures { λ r. ⌜ (r .cost ≡ walkAt (now (file .entry)) at (now (nodes .entry)) (now (state .entry)) .cost) × (r .passed ≡ walkAt (now (file .entry)) at (now (nodes .entry)) (now (state .entry)) .passed) × (r .cost ≤ maxWalk) × (r .passed ≤ maxPassed) ⌝ }
 {
+    if file.len() < at {
+        return Walked { cost: 0, passed: 0 };
+    }
     let effect = at + length_at(file, at);
     let incoming = effect + length_at(file, effect);
     let count = byte_at(file, incoming + 2) as usize;
@@ -42,8 +44,8 @@ pub fn walk_at(file: &[u8], at: usize, nodes: &[usize], state: &[u8]) -> Walked
 
 // The walk from node 1 up through a diagram with `count` nodes.
 fn way_up(file: &[u8], nodes: &[usize], count: usize, state: &[u8]) -> Walked
-    requires { ⌜ count ≤ maxNodes ⌝ }
-    ensures { λ r. ⌜ (r .cost ≡ wayFrom (now (file .entry)) (now (nodes .entry)) count (now (state .entry)) 1 .cost) × (r .passed ≡ wayFrom (now (file .entry)) (now (nodes .entry)) count (now (state .entry)) 1 .passed) × (r .cost ≤ maxWeight * count) ⌝ }
+    requires { ⌜ count ≤ maxPassed ⌝ }
+    ensures { λ r. ⌜ (r .cost ≡ wayFrom (now (file .entry)) (now (nodes .entry)) count (now (state .entry)) 1 .cost) × (r .passed ≡ wayFrom (now (file .entry)) (now (nodes .entry)) count (now (state .entry)) 1 .passed) × (r .cost ≤ maxWeight * count) × (r .passed ≤ count) ⌝ }
 {
     let mut cost: u32 = 0;
     let mut passed: usize = 0;

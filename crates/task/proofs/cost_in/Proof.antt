@@ -8,7 +8,7 @@ use Rattle.facts.specs.Read.{accepted}
 use Rattle.facts.specs.Answers.{checkedAnswer}
 use Rattle.task.specs.WalkInPlace.{walkAt}
 use Rattle.task.specs.MoveInPlaceLaws.{own-nodes}
-use Rattle.task.specs.AnswerLaws.{starts, cost-missing, cost-front, cost-state, cost-is}
+use Rattle.task.specs.AnswerLaws.{starts, cost-missing, cost-state, cost-is}
 use borrow.Author.Needs.{needs}
 use native.Mathlib.Omega.{arith}
 use Rattle.task.proofs.cost_in.Statement.{statement}
@@ -36,9 +36,6 @@ mul-walk-at c = omega (arith, c .before .before .before .before .before .before 
 
 array-read-walk-at : tie.Need-array-read-walk-at
 array-read-walk-at c = omega (arith, c .before .before .before .before .before .before .before .before .before .if1 .left, starts _ (c .before .before .before .before .before .before .before .before .before .before .before .before .pre) .actions)
-
-walk-at-requires : tie.Need-walk-at-requires
-walk-at-requires c κs = let s = c .before .before .before .before .before .before .before .before .before .before .before .before .before .before in cost-front (now (s .args .file)) (s .pre) (s .args .action) (now (s .args .state)) (c .before .before .before .before .before .before .before .before .before .before .before .if1 .left)
 
 returns-2 : tie.Need-returns-2
 returns-2 c =
@@ -71,6 +68,6 @@ cost-in-spec =
     (λ c. search needs)
     (λ c. search needs)
     (λ c. search needs)
-    walk-at-requires
+    (λ c κs. search needs)
     returns-2
     returns-3)

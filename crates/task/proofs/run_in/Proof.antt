@@ -1,22 +1,21 @@
 -- `task::run_in` meets its contract: the state is a copy of the initial values. Assumes nothing.
 use Prim.Native.Nat.{ℕ, _+_, _*_, _-_, _≤_}
-use mathlib.Core.Path.{_≡_, refl, sym, ap, ap₂, _∙_}
+use mathlib.Core.Path.{_≡_, sym, ap, ap₂, _∙_}
 use mathlib.Core.List.{List, _++_}
 use denote.Ref.{now}
 use lib.ListN.{length, take, drop, replicate, length-take, length-drop, length-append}
 use lib.Seq.{length-take-le, take-at}
 use Rattle.facts.specs.WriteLaws.{copied}
 use Rattle.facts.specs.Partial.{partialAt}
-use Rattle.facts.specs.Run.{runFrom}
-use Rattle.task.specs.WalkInPlace.{moveAt}
-use Rattle.task.specs.AnswerLaws.{Starts, starts, run-fronts, run-is}
+use Rattle.task.specs.WalkInPlace.{moveAt, runList}
+use Rattle.task.specs.AnswerLaws.{Starts, starts, run-is}
 use borrow.Author.Needs.{needs}
 use native.Mathlib.Omega.{arith}
 use Rattle.task.proofs.run_in.Statement.{statement}
 use Rattle.task.proofs.run_in.Tie as tie
 
-begins : (c : tie.Start) → Starts (now (c .args .file)) (c .pre .0)
-begins c = starts (now (c .args .file)) (c .pre .0)
+begins : (c : tie.Start) → Starts (now (c .args .file)) (c .pre)
+begins c = starts (now (c .args .file)) (c .pre)
 
 -- the initial values as they stand, one for each variable
 abbrev init : tie.Start → List ℕ
@@ -32,7 +31,7 @@ init-is c =
     ap (λ (k : ℕ). take k (drop (1 + v) (now (c .args .file)))) n
 
 few : (c : tie.Start) → c .args .task .actions ≤ length (c .args .task .starts)
-few c = omega (arith, begins c .actions, c .pre .0 .starts-long)
+few c = omega (arith, begins c .actions, c .pre .starts-long)
 
 -- a state of zeros
 abbrev zeros : List ℕ
@@ -74,18 +73,15 @@ array-borrow-prefix-state-2 c = omega (arith, length-append (c .before .before .
 slice-aggregate-run-list-4 : tie.Need-slice-aggregate-run-list-4
 slice-aggregate-run-list-4 c = sym (ap length (state-is (c .before .before .before .before .before)) ∙ init-long (c .before .before .before .before .before .before .before .before .before .before .before .before .before))
 
-run-list-requires : tie.Need-run-list-requires
-run-list-requires c κs = (run-fronts _ (c .before .before .before .before .before .before .before .before .before .before .before .before .before .pre .0), c .before .before .before .before .before .before .before .before .before .before .before .before .before .pre .1)
-
 returns : tie.Need-returns
 returns c =
     let s = c .before .before .before .before .before .before .before .before .before .before .before .before .before .before .before in
     let a = s .args in
     let t = a .task in
     let goal : 1 + t .variables + t .variables ≡ 1 + 2 * t .variables = omega arith in
-    c .before .run-list .ensures
-    ∙ ap₂ (λ (at : ℕ) (state : List ℕ). runFrom (length (take (t .actions) (t .starts))) (moveAt (now (a .file)) (take (t .actions) (t .starts)) (t .firsts) (t .nodes)) (partialAt (now (a .file)) at) 0 0 (now (a .list)) state) goal (state-is (c .before .before .before .before .before .before .before) ∙ init-is s)
-    ∙ sym (run-is (now (a .file)) (s .pre .0) (now (a .list)) (s .pre .1))
+    c .before .run-list .ensures .0
+    ∙ ap₂ (λ (at : ℕ) (state : List ℕ). runList (length (take (t .actions) (t .starts))) (moveAt (now (a .file)) (take (t .actions) (t .starts)) (t .firsts) (t .nodes)) (partialAt (now (a .file)) at) (now (a .list)) state) goal (state-is (c .before .before .before .before .before .before .before) ∙ init-is s)
+    ∙ sym (run-is (now (a .file)) (s .pre) (now (a .list)))
 
 pub run-in-spec : {M : Type 1} → statement M
 run-in-spec =
@@ -105,5 +101,5 @@ run-in-spec =
     (λ c. search needs)
     array-borrow-prefix-state-2
     slice-aggregate-run-list-4
-    run-list-requires
+    (λ c κs. search needs)
     returns)

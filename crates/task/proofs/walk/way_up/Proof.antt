@@ -28,7 +28,7 @@ returns c =
     let l = c .before .before .before .before .before .before .loop in
     let e = c .before .before .before .edge-at .ensures in
     let t = turn-ends (now (a .file)) (now (a .nodes)) (a .count) (now (a .state)) (l .k) (c .before .before .before .before .offset-at .ensures) (e .0) (e .1) (c .before .before .before .before .before .loop-test .taken) (c .if1 .taken) in
-    (omega (arith, l .inv, t), omega (arith, l .inv, t), omega (arith, l .inv, e .2, c .before .before .before .before .before .loop-test .taken))
+    (omega (arith, l .inv, t), omega (arith, l .inv, t), omega (arith, l .inv, e .2, c .before .before .before .before .before .loop-test .taken), omega (arith, l .inv, c .before .before .before .before .before .loop-test .taken))
 
 loop-again : tie.Need-loop-again Inv-loop μ-loop
 loop-again c =
@@ -43,7 +43,7 @@ returns-2 c =
     let a = c .before .before .before .before .before .args in
     let l = c .before .loop in
     let t = turn-none (now (a .file)) (now (a .nodes)) (a .count) (now (a .state)) (l .k) (c .loop-test .left) in
-    (omega (arith, l .inv, t), omega (arith, l .inv, t), omega (arith, l .inv))
+    (omega (arith, l .inv, t), omega (arith, l .inv, t), omega (arith, l .inv), l .inv .1)
 
 pub way-up-spec : {M : Type 1} → statement M
 way-up-spec =
