@@ -1,16 +1,16 @@
 -- Definitions.
-pub mod Carry
--- Laws.
-pub mod ListLaws
-pub mod PathLaws
-pub mod ViewLaws
-pub mod StepLaws
-pub mod RunLaws
-pub mod MoveLaws
-pub mod Forward
-pub mod Backward
-pub mod Contract
--- Demand 3 over values.
-pub mod Plans
--- The document's examples, computed.
-pub mod Examples
+pub mod CarryFile
+pub mod Answers
+-- Laws that the statement rests on.
+pub mod StartLaws
+pub mod SameSumLaws
+-- Demand 3 over files, and plans carried across and back.
+pub mod SameSum
+-- What the code is promised by, in place.
+pub mod InPlace
+-- Laws of the code.
+pub mod AnswerLaws
+pub mod ActionLaws
+pub mod ExpandLaws
+pub mod NoteLaws
+pub mod ContractLaws

@@ -1,1 +1,78 @@
-// Plans carried across between a task and the probe file written from it: the theory, over values.
+// Plans carried across between a task file and the probe file written from it, at the same sum.
+mod path;
+mod plan;
+mod starts;
+
+use compile::Compiled;
+use facts::Checked;
+use facts::Ran;
+use facts::Refusal;
+use task::Task;
+ghost use mathlib.Core.Path.{_≡_};
+ghost use lib.ListN.{length};
+ghost use Rattle.task.specs.Index.{Ready};
+ghost use Rattle.carry.specs.CarryFile.{expanded, contracted, answerIn, bufferIn};
+ghost use Rattle.carry.specs.Answers.{carriedAnswer};
+
+// The most bytes that a written probe file has.
+const WRITTEN: usize = 13846;
+
+// The length of the list that was written and its sum, or the refusal.
+pub enum Carried {
+    List(usize, u32),
+    Refused(Refusal),
+}
+
+// Writes the probe list that comes from a list of actions: the task file's refusals, then 8, per action 11 before 9, 10 at the end, and 7 where the
+// buffer is too short; a refusal changes no entry.
+pub fn expand(file: &[u8], list: &[u16], out: &mut [u16]) -> Carried
+    ensures { λ r. ⌜ carriedAnswer r ≡ answerIn (length (now (out .entry))) (expanded (now (file .entry)) (now (list .entry))) ⌝ }
+    ensures { λ r. ⌜ now (out .exit) ≡ bufferIn (now (out .entry)) (expanded (now (file .entry)) (now (list .entry))) ⌝ }
+{
+    let indexed = task::index_of(file);
+    let answer = indexed.answer;
+    match answer {
+        Checked::Refused(why) => Carried::Refused(why),
+        Checked::Accepted => {
+            let task = indexed.task;
+            expand_in(file, task, list, out)
+        }
+    }
+}
+
+// The same, of a file that is accepted.
+fn expand_in(file: &[u8], task: Task, list: &[u16], out: &mut [u16]) -> Carried
+    requires { ⌜ Ready (now file) task ⌝ }
+    ensures { λ r. ⌜ carriedAnswer r ≡ answerIn (length (now (out .entry))) (expanded (now (file .entry)) (now (list .entry))) ⌝ }
+    ensures { λ r. ⌜ now (out .exit) ≡ bufferIn (now (out .entry)) (expanded (now (file .entry)) (now (list .entry))) ⌝ }
+{
+    let run = plan::run_plan(file, task, list);
+    let answer = run.answer;
+    match answer {
+        Ran::Refused(why) => Carried::Refused(why),
+        Ran::Sum(sum) => {
+            let needed = 2 * list.len() + run.passed;
+            if out.len() < needed {
+                return Carried::Refused(Refusal::Short(needed));
+            }
+            let written = plan::put_plan(file, task, list, out);
+            Carried::List(written, sum)
+        }
+    }
+}
+
+// Writes the list of actions that a probe list comes from: the task file's refusals, then 8, per step 11 before 9, 10 at the end, 8 for more than 256
+// actions, and 7 where the buffer is too short; a refusal changes no entry.
+pub fn contract(file: &[u8], list: &[u16], out: &mut [u16]) -> Carried
+    ensures { λ r. ⌜ carriedAnswer r ≡ answerIn (length (now (out .entry))) (contracted (now (file .entry)) (now (list .entry))) ⌝ }
+    ensures { λ r. ⌜ now (out .exit) ≡ bufferIn (now (out .entry)) (contracted (now (file .entry)) (now (list .entry))) ⌝ }
+{
+    let mut written = [0; WRITTEN];
+    match compile::compile(file, &mut written) {
+        Compiled::Refused(why) => Carried::Refused(why),
+        Compiled::Length(length) => match probe::run(&written[..length], list) {
+            Ran::Refused(why) => Carried::Refused(why),
+            Ran::Sum(sum) => starts::contract_plan(file, list, sum, out),
+        },
+    }
+}

@@ -62,7 +62,7 @@ module _ (f : List ℕ) where
   bytes-in sizes n a {at} {own} s = omega (arith, action-total n a (actionIn f sizes at own), stands-values (s .pre), stands-values (s .eff))
 
   -- The edges of an action's own nodes, which are those from index n on, where the index k is n, or the end of all offsets.
-  edges-own : (sizes nodes : List ℕ) (at n : ℕ) {k count edges : ℕ} → k ≡ min n (length nodes) → count ≡ nodeCount f at
+  pub edges-own : (sizes nodes : List ℕ) (at n : ℕ) {k count edges : ℕ} → k ≡ min n (length nodes) → count ≡ nodeCount f at
       → edges ≡ total edgeCount (nodesIn f sizes (take (length nodes - k) (drop k nodes)) 0 count) → edges ≡ total edgeCount (nodesIn f sizes (drop n nodes) 0 (nodeCount f at))
   edges-own sizes nodes at n h g e = rw (own-nodes nodes n h, g) at e
 

@@ -23,25 +23,30 @@ edges-long f at zero = refl
 edges-long f at (suc k) = ap suc (edges-long f (at + edgeBytes) k)
 
 -- All edges are left.
-pub edges-start : (f sizes offsets : List ℕ) (count : ℕ)
-    → total edgeCount (nodesIn f sizes offsets 0 count) ≡ 0 + total edgeCount (nodesIn f sizes offsets 0 (count - 0))
-edges-start f sizes offsets count = let e : count - 0 ≡ count = omega arith in rw e (omega arith)
+pub edges-start : (f sizes offsets : List ℕ) (from count : ℕ)
+    → total edgeCount (nodesIn f sizes offsets from count) ≡ 0 + total edgeCount (nodesIn f sizes offsets (from + 0) (count - 0))
+edges-start f sizes offsets from count =
+    let e : count - 0 ≡ count = omega arith in
+    let k : from + 0 ≡ from = omega arith in
+    rw (e, k) (omega arith)
 
-module _ (f sizes offsets : List ℕ) (j count : ℕ) where
-  -- The nodes from index j on: the one there, and those from the next on.
-  pub nodes-left : j < count → nodesIn f sizes offsets j (count - j) ≡ nodeIn f sizes (getD offsets j 0) ∷ nodesIn f sizes offsets (j + 1) (count - (j + 1))
-  nodes-left h = let e : count - j ≡ suc (count - (j + 1)) = omega arith in rw (e, add-one j)
+-- j of `count` nodes are done, and the next has the index k
+module _ (f sizes offsets : List ℕ) (k j count : ℕ) where
+  -- The nodes from index k on: the one there, and those from the next on.
+  pub nodes-left : j < count → nodesIn f sizes offsets k (count - j) ≡ nodeIn f sizes (getD offsets k 0) ∷ nodesIn f sizes offsets (k + 1) (count - (j + 1))
+  nodes-left h = let e : count - j ≡ suc (count - (j + 1)) = omega arith in rw (e, add-one k)
 
   -- Their edges.
-  pub edges-left : {node v d : ℕ} → node ≡ getD offsets j 0 → v ≡ getD f node 0 → d ≡ getD sizes v 0 → j < count
-      → total edgeCount (nodesIn f sizes offsets j (count - j)) ≡ d + total edgeCount (nodesIn f sizes offsets (j + 1) (count - (j + 1)))
-  edges-left {node} {v} {d} a b c h =
-      let e : getD sizes (getD f (getD offsets j 0) 0) 0 ≡ d = sym (c ∙ ap (λ (x : ℕ). getD sizes x 0) (b ∙ ap (λ (x : ℕ). getD f x 0) a)) in
+  pub edges-left : {node v d q : ℕ} → node ≡ getD offsets k 0 → v ≡ getD f node 0 → d ≡ getD sizes v 0 → q ≡ k + 1 → j < count
+      → total edgeCount (nodesIn f sizes offsets k (count - j)) ≡ d + total edgeCount (nodesIn f sizes offsets q (count - (j + 1)))
+  edges-left {node} {v} {d} {q} a b c g h =
+      let e : getD sizes (getD f (getD offsets k 0) 0) 0 ≡ d = sym (c ∙ ap (λ (x : ℕ). getD sizes x 0) (b ∙ ap (λ (x : ℕ). getD f x 0) a)) in
       ap (total edgeCount) (nodes-left h)
-      ∙ ap (λ (x : ℕ). x + total edgeCount (nodesIn f sizes offsets (j + 1) (count - (j + 1)))) (edges-long f (getD offsets j 0 + 1) (getD sizes (getD f (getD offsets j 0) 0) 0) ∙ e)
+      ∙ ap (λ (x : ℕ). x + total edgeCount (nodesIn f sizes offsets (k + 1) (count - (j + 1)))) (edges-long f (getD offsets k 0 + 1) (getD sizes (getD f (getD offsets k 0) 0) 0) ∙ e)
+      ∙ ap (λ (i : ℕ). d + total edgeCount (nodesIn f sizes offsets i (count - (j + 1)))) (sym g)
 
   -- None are left.
-  pub edges-none : count - j ≡ 0 → total edgeCount (nodesIn f sizes offsets j (count - j)) ≡ 0
+  pub edges-none : count - j ≡ 0 → total edgeCount (nodesIn f sizes offsets k (count - j)) ≡ 0
   edges-none h = rw h
 
 -- ---- the steps of a node
@@ -103,7 +108,7 @@ module _ (f sizes offsets : List ℕ) (n a count : ℕ) where
   nodes-cut j {node} g h =
       let i : 1 + j ≡ suc j = omega arith in
       record {
-        cut = ap (λ (l : List Node). writeEach writeStep (flat (nodeSteps n a) (suc j) l)) (nodes-left f sizes offsets j count h)
+        cut = ap (λ (l : List Node). writeEach writeStep (flat (nodeSteps n a) (suc j) l)) (nodes-left f sizes offsets j j count h)
             ∙ each-append writeStep (nodeSteps n a (suc j) (nodeIn f sizes (getD offsets j 0))) (flat (nodeSteps n a) (suc (suc j)) (nodesIn f sizes offsets (j + 1) (count - (j + 1))))
             ∙ rw (g, i, add-one j);
       }
@@ -116,7 +121,7 @@ module _ (f sizes offsets : List ℕ) (n a count : ℕ) where
 -- ---- the steps of an action
 
 -- As many nodes as are asked for.
-nodes-long : (f sizes offsets : List ℕ) (j k : ℕ) → length (nodesIn f sizes offsets j k) ≡ k
+pub nodes-long : (f sizes offsets : List ℕ) (j k : ℕ) → length (nodesIn f sizes offsets j k) ≡ k
 nodes-long f sizes offsets j zero = refl
 nodes-long f sizes offsets j (suc k) = ap suc (nodes-long f sizes offsets (suc j) k)
 

@@ -117,7 +117,7 @@ module _ (f : List ℕ) {sizes : List ℕ} {x : Action} {at first : ℕ} {all : 
   node-at {j} {nd} h = rw (getD-drop first all j 0) (node-read f sizes (length (x .nodes)) (suc j) (getD all (first + j) 0) (l .node j nd h .1))
 
   -- The action.
-  action-here : actionIn f sizes at (drop first all) ≡ x
+  pub action-here : actionIn f sizes at (drop first all) ≡ x
   action-here =
       let w = incoming-lies f l in
       let incoming = word-is f (incomingPlace f at) (w .fits) (w .value) in
@@ -169,10 +169,10 @@ module _ (f : List ℕ) {i : Index} (ready : Ready f i) where
   abbrev begins : List ℕ
   begins = take (i .actions) (i .starts)
 
-  reads : readTask f ≡ accepted t
+  pub reads : readTask f ≡ accepted t
   reads = task-there f ready .reads
 
-  located : Located f begins (i .firsts) (i .nodes)
+  pub located : Located f begins (i .firsts) (i .nodes)
   located = located-actions f reads (ready .located) (i .actions) (omega (arith, task-there f ready .actions))
 
   -- Each action stands at its offset.
@@ -182,7 +182,7 @@ module _ (f : List ℕ) {i : Index} (ready : Ready f i) where
       rw e (stood f (located .lies t reads a (x .0) (x .1)) (omega (arith, total-at (λ x. length (x .nodes)) (x .1), task-limits f reads .nodes)))
 
   -- The actions in place are the task's.
-  actions-in-place : actionsIn f (t .sizes) begins (i .firsts) (i .nodes) 0 (length begins) ≡ t .actions
+  pub actions-in-place : actionsIn f (t .sizes) begins (i .firsts) (i .nodes) 0 (length begins) ≡ t .actions
   actions-in-place =
       ap (actionsIn f (t .sizes) begins (i .firsts) (i .nodes) 0) (starts-count f ready)
       ∙ actions-are f (t .sizes) begins (i .firsts) (i .nodes) 0 (t .actions) (λ a q x h e.

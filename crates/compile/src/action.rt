@@ -1,5 +1,5 @@
 // The steps of actions, each written straight after the last one.
-use crate::length::node_count;
+use crate::count::node_count;
 use crate::step::put_edge;
 use crate::step::put_end;
 use crate::step::put_start;
@@ -62,7 +62,7 @@ fn put_action(
     ensures { λ r. ⌜ Wrote (writeEach writeStep (actionSteps (length (now (sizes .entry))) a (actionIn (now (file .entry)) (now (sizes .entry)) at (now (nodes .entry))))) (now (out .entry)) (now (out .exit)) r ⌝ }
 {
     let n = sizes.len();
-    let count = node_count(file, at);
+    let count = node_count(file, at) as usize;
     let start = put_start(file, at, n, a, out);
     let edges = start + put_nodes(file, sizes, nodes, count, a, &mut out[start..]);
     edges + put_end(file, at, count, n, a, &mut out[edges..])

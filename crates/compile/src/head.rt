@@ -1,5 +1,5 @@
 // The head of the probe file of a task: sizes, initial values and goal, then the step count.
-use crate::length::node_count;
+use crate::count::node_count;
 use crate::put::bit;
 use crate::put::put_byte;
 use crate::put::put_bytes;
@@ -63,7 +63,7 @@ fn put_markers(file: &[u8], action_at: &[usize], out: &mut [u8]) -> usize
     let mut at: usize = 0;
     let mut a: usize = 0;
     while a < action_at.len() {
-        let size = node_count(file, action_at[a]) + 2;
+        let size = node_count(file, action_at[a]) as usize + 2;
         at += put_byte(&mut out[at..], size as u8);
         a += 1;
     }

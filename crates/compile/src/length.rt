@@ -1,6 +1,6 @@
 // How many steps the actions of a task have, and how many bytes.
-use facts::number::byte_at;
-use facts::number::offset_at;
+use crate::count::edge_count;
+use crate::count::node_count;
 use facts::number::offset_within;
 use facts::partial::length_at;
 ghost use mathlib.Core.Path.{_≡_};
@@ -44,7 +44,7 @@ pub fn extent_of(
     while a < action_at.len() {
         let at = action_at[a];
         let first = offset_within(first_node, a, node_at.len());
-        let edges = edge_count(file, sizes, &node_at[first..], node_count(file, at));
+        let edges = edge_count(file, sizes, &node_at[first..], 0, node_count(file, at));
         steps += 2 + edges;
         bytes += START_AND_END + own_bytes(file, at) + EDGE_STEP * edges;
         a += 1;
@@ -59,29 +59,4 @@ fn own_bytes(file: &[u8], at: usize) -> usize
 {
     let pre = length_at(file, at);
     pre + length_at(file, at + pre)
-}
-
-// The number of nodes of the action at an offset.
-pub fn node_count(file: &[u8], at: usize) -> usize
-    requires { ⌜ at ≤ length (now file) ⌝ }
-    ensures { λ r. ⌜ (r ≡ nodeCount (now (file .entry)) at) × (r < 256) ⌝ }
-{
-    let effect = at + length_at(file, at);
-    let incoming = effect + length_at(file, effect);
-    byte_at(file, incoming + 2) as usize
-}
-
-// The edges of the first `count` nodes at these offsets: one for each value of a node's variable.
-fn edge_count(file: &[u8], sizes: &[u8], nodes: &[usize], count: usize) -> usize
-    requires { ⌜ count < 256 ⌝ }
-    ensures { λ r. ⌜ (r ≡ total edgeCount (nodesIn (now (file .entry)) (now (sizes .entry)) (now (nodes .entry)) 0 count)) × (r ≤ 255 * count) ⌝ }
-{
-    let mut edges: usize = 0;
-    let mut j: usize = 0;
-    while j < count {
-        let variable = byte_at(file, offset_at(nodes, j)) as usize;
-        edges += byte_at(sizes, variable) as usize;
-        j += 1;
-    }
-    edges
 }

@@ -1,5 +1,6 @@
 // The probe file of a task: written into the caller's buffer.
 mod action;
+pub mod count;
 mod head;
 mod length;
 mod put;

@@ -151,7 +151,7 @@ module _ (f : List ℕ) (at : ℕ) (past : length f < at) where
   unfolding incomingPlace
   incoming-past = omega (arith, past-on f at, past-on f (pastPartial f at))
 
-  count-none : nodeCount f at ≡ 0
+  pub count-none : nodeCount f at ≡ 0
   unfolding nodeCount
   count-none = List·getD-eq-default f 0 (omega (arith, incoming-past))
 

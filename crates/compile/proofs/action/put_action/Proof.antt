@@ -28,17 +28,17 @@ ends c = let a = c .before .before .before .before .before .args in writeStep (e
 fits : (c : tie.After-node-count) → length (start c) + length (nodes c) + length (ends c) ≤ length (now (c .before .before .before .before .before .args .out))
 fits c =
     let a = c .before .before .before .before .before .args in
-    omega (arith, c .before .before .before .before .before .pre .1, action-long (now (a .file)) (now (a .sizes)) (a .at) (now (a .nodes)) (length (now (a .sizes))) (a .a) (c .node-count .ensures .0))
+    omega (arith, c .before .before .before .before .before .pre .1, action-long (now (a .file)) (now (a .sizes)) (a .at) (now (a .nodes)) (length (now (a .sizes))) (a .a) (c .node-count .ensures))
 
 two-long : (c : tie.After-node-count) → length (start c ++ nodes c) ≡ length (start c) + length (nodes c)
 two-long c = length-append (start c) (nodes c)
 
 -- no more nodes than an action may have, each of which tests one of the variables
 few : (c : tie.After-node-count) → c .node-count .result ≤ 64
-few c = omega (arith, c .node-count .ensures .0, c .before .before .before .before .before .pre .0 .0 .few)
+few c = omega (arith, c .node-count .ensures, c .before .before .before .before .before .pre .0 .0 .few)
 
 tests : (c : tie.After-node-count) (j : ℕ) → j < c .node-count .result → Tests (now (c .before .before .before .before .before .args .file)) (now (c .before .before .before .before .before .args .sizes)) (getD (now (c .before .before .before .before .before .args .nodes)) j 0)
-tests c j h = c .before .before .before .before .before .pre .0 .0 .nodes j (omega (arith, h, c .node-count .ensures .0))
+tests c j h = c .before .before .before .before .before .pre .0 .0 .nodes j (omega (arith, h, c .node-count .ensures))
 
 put-start-requires : tie.Need-put-start-requires
 put-start-requires c κs =
@@ -62,14 +62,15 @@ put-end-requires c κs =
 returns : tie.Need-returns
 returns c =
     let a = c .before .before .before .before .before .before .before .before .before .before .before .before .before .before .before .before .before .args in
-    wrote-action (now (a .file)) (now (a .sizes)) (a .at) (now (a .nodes)) (length (now (a .sizes))) (a .a) (c .before .before .before .before .before .before .before .before .before .before .before .before .node-count .ensures .0)
+    wrote-action (now (a .file)) (now (a .sizes)) (a .at) (now (a .nodes)) (length (now (a .sizes))) (a .a) (c .before .before .before .before .before .before .before .before .before .before .before .before .node-count .ensures)
     (wrote-then (wrote-then (c .before .before .before .before .before .before .before .before .before .before .put-start .ensures) (c .before .before .before .before .before .before .put-nodes .ensures)) (c .before .before .put-end .ensures))
 
 pub put-action-spec : {M : Type 1} → statement M
 put-action-spec =
     tie.close
     (tie.spec
-    (λ c κs. omega (arith, c .before .before .before .before .pre .0 .0 .pre .fits))
+    (λ c κs. search needs)
+    (λ c. search needs)
     put-start-requires
     (λ c. wrote-inside (c .before .before .put-start .ensures) (omega (arith, fits (c .before .before .before .before))))
     (λ c. wrote-inside (c .before .before .put-start .ensures) (omega (arith, fits (c .before .before .before .before))))

@@ -23,7 +23,7 @@ fits : (c : tie.Start Inv-loop μ-loop) → length (markersIn (now (c .args .fil
 fits c = omega (arith, c .pre .1, length-map (now (c .args .action-at)) (λ (at : ℕ). nodeCount (now (c .args .file)) at + 2))
 
 cut : (c : tie.After-node-count Inv-loop μ-loop) → let x = c .before .before .before .before .before .before .before .args in Cut (markersFrom (now (x .file)) (now (x .action-at)) (c .before .before .before .loop .a)) ((c .node-count .result + 2) ∷ []) (markersFrom (now (x .file)) (now (x .action-at)) (c .before .before .before .loop .a + 1))
-cut c = let x = c .before .before .before .before .before .before .before .args in markers-cut (now (x .file)) (now (x .action-at)) (c .before .before .before .loop .a) (c .node-count .ensures .0) (c .before .before .loop-test .taken)
+cut c = let x = c .before .before .before .before .before .before .before .args in markers-cut (now (x .file)) (now (x .action-at)) (c .before .before .before .loop .a) (c .node-count .ensures) (c .before .before .loop-test .taken)
 
 add-at : tie.Need-add-at Inv-loop μ-loop
 add-at c =
@@ -44,12 +44,13 @@ put-markers-spec =
     (λ c. let s = c .before .before .before in (omega arith, markers-start (now (s .args .file)) (now (s .args .action-at)) (now (s .args .out))))
     (λ c. search needs)
     (λ c. search needs)
-    (λ c κs. c .before .before .before .before .before .before .pre .0 (c .before .before .loop .a) (c .before .loop-test .taken) .0)
-    (λ c. omega (arith, c .node-count .ensures .1))
+    (λ c κs. search needs)
+    (λ c. search needs)
+    (λ c. omega arith)
     (λ c. going-inside (c .before .before .before .loop .inv .1) (fits (c .before .before .before .before .before .before .before)))
     (λ c. going-inside (c .before .before .before .loop .inv .1) (fits (c .before .before .before .before .before .before .before)))
     (λ c. search needs)
-    (λ c. let s = c .before .before .before .before .before .before .before .before in omega (arith, c .before .node-count .ensures .0, s .pre .0 (c .before .before .before .before .loop .a) (c .before .before .before .loop-test .taken) .1))
+    (λ c. let s = c .before .before .before .before .before .before .before .before in omega (arith, c .before .node-count .ensures, s .pre .0 (c .before .before .before .before .loop .a) (c .before .before .before .loop-test .taken) .1))
     (λ c κs. going-room (c .before .before .before .before .loop .inv .1) (fits (c .before .before .before .before .before .before .before .before)) (cut (c .before)))
     add-at
     (λ c. omega (arith, c .before .before .before .before .before .before .loop-test .taken))

@@ -26,7 +26,7 @@ stood c = c .before .before .before .before .before .before .before .before .pre
 
 -- it has at most 64 nodes with 255 edges each
 edges-few : (c : tie.After-edge-count Inv-loop μ-loop) → c .edge-count .result ≤ 16320
-edges-few c = omega (arith, c .edge-count .ensures .1, c .before .node-count .ensures .0, stood (c .before .before .before .before) .few)
+edges-few c = omega (arith, c .edge-count .ensures .1, c .before .node-count .ensures, stood (c .before .before .before .before) .few)
 
 loop-again : tie.Need-loop-again Inv-loop μ-loop
 loop-again c =
@@ -36,7 +36,7 @@ loop-again c =
       omega (arith, taken),
       omega (arith, l .inv .1, edges-few (c .before)),
       omega (arith, l .inv .2, edges-few (c .before), c .own-bytes .ensures .1),
-      counted-action (now (a .file)) (now (a .sizes)) (now (a .action-at)) (now (a .first-node)) (now (a .node-at)) (length (now (a .action-at))) (l .a) taken (stood (c .before .before .before .before .before)) (c .before .before .before .before .offset-within .ensures) (c .before .before .node-count .ensures .0) (c .before .edge-count .ensures .0) (c .own-bytes .ensures .0) (l .inv .3),
+      counted-action (now (a .file)) (now (a .sizes)) (now (a .action-at)) (now (a .first-node)) (now (a .node-at)) (length (now (a .action-at))) (l .a) taken (stood (c .before .before .before .before .before)) (c .before .before .before .before .offset-within .ensures) (c .before .before .node-count .ensures) (c .before .edge-count .ensures .0) (c .own-bytes .ensures .0) (l .inv .3),
     )
 
 returns : tie.Need-returns Inv-loop μ-loop
@@ -59,8 +59,8 @@ extent-of-spec =
     (λ c. omega (arith, c .offset-within .ensures))
     (λ c. omega (arith, c .offset-within .ensures))
     (λ c. search needs)
-    (λ c κs. omega (arith, stood (c .before .before) .pre .fits))
-    (λ c κs. c .node-count .ensures .1)
+    (λ c κs. search needs)
+    (λ c κs. search needs)
     (λ c. omega (arith, edges-few c))
     (λ c. omega (arith, c .before .before .before .before .before .before .loop .inv .0, c .before .before .before .before .before .before .loop .inv .1, c .before .before .before .before .before .before .before .before .before .before .before .before .pre .0 .1, edges-few c))
     (λ c κs. omega (arith, stood (c .before .before .before .before) .pre .fits))

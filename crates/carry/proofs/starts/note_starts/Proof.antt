@@ -1,0 +1,65 @@
+-- `carry::starts::note_starts` meets its contract: the starts that are noted are those of the task of the file. Assumes nothing.
+use Prim.Native.Nat.{ℕ, _+_, _-_, _≤_}
+use mathlib.Core.Path.{_≡_, sym, ap, _∙_}
+use native.Mathlib.Omega.{arith}
+use lib.ListN.{length, take, drop}
+use lib.Seq.{length-take-le}
+use denote.Ref.{now}
+use Rattle.task.specs.AnswerLaws.{there, Starts, starts}
+use Rattle.carry.specs.NoteLaws.{start-below, note-in}
+use borrow.Author.Needs.{needs}
+use Rattle.carry.proofs.starts.note_starts.Statement.{statement}
+use Rattle.carry.proofs.starts.note_starts.Tie as tie
+
+begins : (c : tie.Start) → Starts (now (c .args .file)) (c .pre .0)
+begins c = starts (now (c .args .file)) (c .pre .0)
+
+-- the domain sizes as they stand
+sizes-are : (c : tie.Start) → take (1 + c .args .task .variables - 1) (drop 1 (now (c .args .file))) ≡ there (now (c .args .file)) (c .pre .0) .task .sizes
+sizes-are c = let same : 1 + c .args .task .variables - 1 ≡ c .args .task .variables = omega arith in ap (λ (k : ℕ). take k (drop 1 (now (c .args .file)))) same ∙ begins c .sizes
+
+-- the offset of each action
+few : (c : tie.Start) → c .args .task .actions ≤ length (c .args .task .starts)
+few c = omega (arith, begins c .actions, c .pre .0 .starts-long)
+
+starts-long : (c : tie.Start) → length (take (c .args .task .actions) (c .args .task .starts)) ≡ c .args .task .actions
+starts-long c = length-take-le (c .args .task .actions) (c .args .task .starts) (few c)
+
+number-starts-requires : tie.Need-number-starts-requires
+number-starts-requires c κs =
+    let s = c .before .before .before .before .before .before .before .before .before .before in
+    (omega (arith, starts-long s, begins s .actions), omega (arith, starts-long s, begins s .actions))
+
+-- there is a number for each action
+numbers : (c : tie.After-first-step2) → c .before .before .before .before .before .before .before .before .before .before .before .before .args .task .actions ≤ length (c .before .number-starts .last .1 .1 .1 .1 .1 .0)
+numbers c = omega (arith, begins (c .before .before .before .before .before .before .before .before .before .before .before .before) .actions, c .first-step2 .given)
+
+note-actions-requires : tie.Need-note-actions-requires
+note-actions-requires c κs =
+    let s = c .before .before .before .before .before .before .before .before .before .before .before .before .before .before in
+    (ap length (s .pre .1), start-below (now (s .args .file)) (s .pre .0) (sizes-are s) (c .before .before .before .number-starts .ensures) (numbers (c .before .before)))
+
+returns : tie.Need-returns
+returns c =
+    let s = c .before .before .before .before .before .before .before .before .before .before .before .before .before .before .before .before .before in
+    note-in (now (s .args .file)) (s .pre .0) (sizes-are s) (c .before .before .before .before .before .before .number-starts .ensures) (numbers (c .before .before .before .before .before)) (s .pre .1) (c .before .before .note-actions .ensures)
+
+pub note-starts-spec : {M : Type 1} → statement M
+note-starts-spec =
+    tie.close
+    (tie.spec
+    (λ c. omega (arith, begins (c .before .before .before .before .before) .variables))
+    (λ c. search needs)
+    (λ c. search needs)
+    (λ c. omega (arith, begins (c .before .before .before .before .before) .fits))
+    (λ c. few (c .before .before .before .before .before .before))
+    (λ c. sym (starts-long (c .before .before .before .before .before .before .before)))
+    (λ c. search needs)
+    (λ c. search needs)
+    (λ c. search needs)
+    number-starts-requires
+    numbers
+    (λ c. sym (length-take-le _ _ (numbers (c .before))))
+    note-actions-requires
+    (λ c. search needs)
+    returns)

@@ -1,0 +1,18 @@
+-- What the answers of the code mean.
+use Prim.Native.Nat.{ℕ}
+use Rattle.facts.specs.Refusal.{number, place}
+use Rattle.facts.specs.Read.{Read, accepted, refused}
+use Rattle.carry.specs.declared.Carried.{Carried}
+use Rattle.carry.specs.declared.Carried.the-variants.{List as Listed, Refused as NotCarried}
+use Rattle.carry.specs.declared.starts.Starts.{Starts}
+use Rattle.carry.specs.declared.starts.Starts.the-variants.{Count, TooMany}
+
+-- the length of the list that was written, and its sum
+abbrev pub carriedAnswer : Carried → Read (ℕ × ℕ)
+carriedAnswer (Listed length sum) = accepted (length, sum)
+carriedAnswer (NotCarried why) = refused (number why) (place why)
+
+-- how many actions a probe list starts, or 8 at the index of the first start past the limit
+abbrev pub startsAnswer : Starts → Read ℕ
+startsAnswer (Count n) = accepted n
+startsAnswer (TooMany i) = refused 8 i

@@ -1,0 +1,84 @@
+-- What code knows of a task's steps and of a list before it carries the list across, and the list of actions by what was noted.
+use mathlib.Core.Path.{_≡_}
+use Prim.Native.Nat.{ℕ, zero, suc, _<_, _≤_}
+use mathlib.Core.List.{List, [], _∷_}
+use mathlib.Core.Option.{none, some}
+use lib.Dec.{ltb}
+use lib.ListN.{length, getD, set, drop}
+use Rattle.facts.specs.Read.{Read, accepted, check, _>>=_, refused}
+use Rattle.facts.specs.Run.{atMost, runFrom}
+use Rattle.task.specs.Task.{Action, Task, maxList, actionPasses, WfAction}
+use Rattle.task.specs.TaskFile.{readTask, runTask}
+use Rattle.probe.specs.Probe.{probeSum, maxList as maxProbeList}
+use Rattle.compilation.specs.Compile.{probeOf, stepCount}
+use Rattle.plans.specs.Carry.{firstStep, startedBy}
+use Rattle.facts.specs.Lists.{total}
+use Rattle.compile.specs.InPlace.{actionIn, actionsIn, Stood}
+use Rattle.carry.specs.CarryFile.{expanded}
+
+-- `first-step` has the number of each action's start
+pub record Numbered (actions : List Action) (first-step : List ℕ) : Type 0 where
+  pub numbers : (a : ℕ) → a < length actions → getD first-step a 0 ≡ firstStep actions a
+
+-- `action-of` has at the number of each start 1 and the number of its action, and at every other number 0
+pub record Noted (actions : List Action) (action-of : List ℕ) : Type 0 where
+  pub notes : (r : ℕ) → getD action-of r 0 ≡ elim (startedBy 0 0 actions r) [ none ↦ 0 | some a ↦ suc a ]
+
+-- the same, of the actions of the task of f
+pub record NotedIn (f action-of : List ℕ) : Type 0 where
+  pub noted : (t : Task) → readTask f ≡ accepted t → Noted (t .actions) action-of
+
+-- `action-of` with 1 and the number of each action set at the number of its start: those from number a on, whose starts these are
+abbrev pub noteFrom : ℕ → List ℕ → List ℕ → List ℕ
+noteFrom a [] action-of = action-of
+noteFrom a (r ∷ first-step) action-of = noteFrom (suc a) first-step (set action-of r (suc a))
+
+-- by what was noted
+module _ (action-of : List ℕ) where
+  -- the actions started by a probe list, in turn
+  abbrev pub contractIn : List ℕ → List ℕ
+  contractIn [] = []
+  contractIn (r ∷ list) = elim (getD action-of r 0) [ zero ↦ contractIn list | suc a ↦ a ∷ contractIn list ]
+
+  -- how many they are, with `count` started before them; 8 at the index of the first start past 256, where the list's first entry has the index i
+  abbrev pub countIn : ℕ → ℕ → List ℕ → Read ℕ
+  countIn count i [] = accepted count
+  countIn count i (r ∷ list) =
+      elim (getD action-of r 0) [
+        | zero ↦ countIn count (suc i) list
+        | suc a ↦ _>>=_ (check (ltb count maxList) 8 i) (λ u. countIn (suc count) (suc i) list)
+      ]
+
+-- f has a task, and the list is a plan of its probe within the limit, with this sum
+pub record ProbePlanOf (f list : List ℕ) (sum : ℕ) : Type 0 where
+  pub t : Task
+  pub task : readTask f ≡ accepted t
+  pub few : atMost maxProbeList list ≡ accepted tt
+  pub sums : probeSum (probeOf t) list ≡ accepted sum
+
+-- ---- lists of actions
+
+-- how many nodes the walks of a list of at most 256 actions pass: the refusals of a run
+unfoldable pub passedTask : List ℕ → List ℕ → Read ℕ
+passedTask f list = do
+  t ← readTask f
+  _ ← atMost maxList list
+  runFrom (length (t .actions)) (actionPasses (t .actions)) (t .goal) 0 0 list (t .init)
+
+-- `list` is a plan of the task of f, of at most 256 actions
+pub record Planned (f list : List ℕ) : Type 0 where
+  pub sum : ℕ
+  pub runs : runTask f list ≡ accepted sum
+
+-- the probe list that comes from a list of actions, and no entries where it is refused
+unfoldable pub expansion : List ℕ → List ℕ → List ℕ
+expansion f list = elim (expanded f list) [ accepted c ↦ c .0 | refused n p ↦ [] ]
+
+-- what the probe list of a list of actions is written from: each action stands in the file at its offset and is well-formed, each start has its number,
+-- there are at most 576 steps, and the list has only numbers of actions
+pub record Prepared (f sizes actions firsts nodes first-step list : List ℕ) : Type 0 where
+  pub stood : (a : ℕ) → a < length actions → Stood f sizes (getD actions a 0) (drop (getD firsts a 0) nodes)
+  pub well-formed : (a : ℕ) → a < length actions → WfAction sizes (actionIn f sizes (getD actions a 0) (drop (getD firsts a 0) nodes))
+  pub starts : Numbered (actionsIn f sizes actions firsts nodes 0 (length actions)) first-step
+  pub few : total stepCount (actionsIn f sizes actions firsts nodes 0 (length actions)) ≤ 576
+  pub known : (i : ℕ) → i < length list → getD list i 0 < length actions

@@ -1,0 +1,142 @@
+// Starts among the steps: their numbers, and the actions that a probe list starts.
+use crate::Carried;
+use compile::count::edge_count;
+use compile::count::node_count;
+use facts::Refusal;
+use facts::number::offset_at;
+use facts::number::offset_within;
+use task::Task;
+ghost use mathlib.Core.Path.{_≡_};
+ghost use Prim.Native.Nat.{ℕ, _≤_, _<_};
+ghost use lib.ListN.{length, getD, replicate};
+ghost use Rattle.facts.specs.Write.{Wrote};
+ghost use Rattle.task.specs.Index.{Ready};
+ghost use Rattle.compile.specs.InPlace.{actionsIn};
+ghost use Rattle.carry.specs.CarryFile.{contracted, answerIn, bufferIn};
+ghost use Rattle.carry.specs.Answers.{carriedAnswer, startsAnswer};
+ghost use Rattle.carry.specs.InPlace.{Numbered, NotedIn, noteFrom, contractIn, countIn, ProbePlanOf};
+
+// The number of each action's start: all steps of the actions before it come first.
+pub fn number_starts(
+    file: &[u8],
+    sizes: &[u8],
+    action_at: &[usize],
+    first_node: &[usize],
+    node_at: &[usize],
+    first_step: &mut [usize],
+)
+    requires { ⌜ (length (now «action_at») ≤ 32) × (length (now «action_at») ≤ length (now «first_step»)) ⌝ }
+    ensures { λ r. ⌜ Numbered (actionsIn (now (file .entry)) (now (sizes .entry)) (now («action_at» .entry)) (now («first_node» .entry)) (now («node_at» .entry)) 0 (length (now («action_at» .entry)))) (now («first_step» .exit)) ⌝ }
+{
+    let mut next: usize = 0;
+    let mut a: usize = 0;
+    while a < action_at.len() {
+        first_step[a] = next;
+        let first = offset_within(first_node, a, node_at.len());
+        let count = node_count(file, action_at[a]);
+        next += 2 + edge_count(file, sizes, &node_at[first..], 0, count);
+        a += 1;
+    }
+}
+
+// How many actions a probe list starts, or where it starts one more than 256.
+pub enum Starts {
+    Count(usize),
+    TooMany(usize),
+}
+
+// Writes the actions that a probe plan of an accepted file starts, in turn; the plan has this sum.
+pub fn contract_plan(file: &[u8], list: &[u16], sum: u32, out: &mut [u16]) -> Carried
+    requires { ⌜ ProbePlanOf (now file) (now list) sum ⌝ }
+    ensures { λ r. ⌜ carriedAnswer r ≡ answerIn (length (now (out .entry))) (contracted (now (file .entry)) (now (list .entry))) ⌝ }
+    ensures { λ r. ⌜ now (out .exit) ≡ bufferIn (now (out .entry)) (contracted (now (file .entry)) (now (list .entry))) ⌝ }
+{
+    let indexed = task::index_of(file);
+    let task = indexed.task;
+    let mut action_of = [0; 576];
+    note_starts(file, task, &mut action_of);
+    match count_starts(&action_of, list) {
+        Starts::TooMany(i) => Carried::Refused(Refusal::Long(i)),
+        Starts::Count(needed) => {
+            if out.len() < needed {
+                return Carried::Refused(Refusal::Short(needed));
+            }
+            Carried::List(put_starts(&action_of, list, out), sum)
+        }
+    }
+}
+
+// Notes at each start's number 1 and the number of its action; at every other step's 0 stays.
+fn note_starts(file: &[u8], task: Task, action_of: &mut [usize])
+    requires { ⌜ Ready (now file) task × (now «action_of» ≡ replicate 576 0) ⌝ }
+    ensures { λ r. ⌜ NotedIn (now (file .entry)) (now («action_of» .exit)) ⌝ }
+{
+    let variables = task.variables;
+    let actions = task.actions;
+    let starts = task.starts;
+    let firsts = task.firsts;
+    let nodes = task.nodes;
+    let last = 1 + variables;
+    let mut first_step = [0; 32];
+    number_starts(
+        file,
+        &file[1..last],
+        &starts[..actions],
+        &firsts,
+        &nodes,
+        &mut first_step,
+    );
+    note_actions(&first_step[..actions], action_of);
+}
+
+// Notes 1 and the number of each action at the number of its start.
+fn note_actions(first_step: &[usize], action_of: &mut [usize])
+    requires { ⌜ (length (now «action_of») ≡ 576) × ((a : ℕ) → a < length (now «first_step») → getD (now «first_step») a 0 < 576) ⌝ }
+    ensures { λ r. ⌜ now («action_of» .exit) ≡ noteFrom 0 (now («first_step» .entry)) (now («action_of» .entry)) ⌝ }
+{
+    let mut a: usize = 0;
+    while a < first_step.len() {
+        action_of[first_step[a]] = 1 + a;
+        a += 1;
+    }
+}
+
+// How many actions a probe list starts.
+fn count_starts(action_of: &[usize], list: &[u16]) -> Starts
+    ensures { λ r. ⌜ startsAnswer r ≡ countIn (now («action_of» .entry)) 0 0 (now (list .entry)) ⌝ }
+{
+    let mut count: usize = 0;
+    let mut i: usize = 0;
+    while i < list.len() {
+        if offset_at(action_of, list[i] as usize) == 0 {
+            i += 1;
+            continue;
+        }
+        if Task::MAX_LIST <= count {
+            return Starts::TooMany(i);
+        }
+        count += 1;
+        i += 1;
+    }
+    Starts::Count(count)
+}
+
+// Writes the number of each action that a probe list starts.
+fn put_starts(action_of: &[usize], list: &[u16], out: &mut [u16]) -> usize
+    requires { ⌜ ((r : ℕ) → getD (now «action_of») r 0 ≤ 32) × (length (contractIn (now «action_of») (now list)) ≤ length (now out)) ⌝ }
+    ensures { λ r. ⌜ Wrote (contractIn (now («action_of» .entry)) (now (list .entry))) (now (out .entry)) (now (out .exit)) r ⌝ }
+{
+    let mut written: usize = 0;
+    let mut i: usize = 0;
+    while i < list.len() {
+        let action = offset_at(action_of, list[i] as usize);
+        if action == 0 {
+            i += 1;
+            continue;
+        }
+        out[written] = (action - 1) as u16;
+        written += 1;
+        i += 1;
+    }
+    written
+}
