@@ -1,0 +1,105 @@
+// The numbers of the additive heuristic, document 01's estimate, and the array that has one for every fact. What rounds over them come to is in specs/.
+ghost use mathlib.Core.Path.{_≡_};
+ghost use Rattle.estimate.specs.Number.{number, sum, lesser, same};
+ghost use Rattle.estimate.specs.Facts.{HasNumbers, startNumber};
+
+// A number of the estimate. Never is first, for the first case is what a definition reads past the end of an array.
+pub enum Est {
+    Never,
+    Over,
+    Exact(u32),
+}
+
+// The largest exact number; above it a number is over.
+const LARGEST: u32 = 4294967295;
+
+// The sum of two numbers.
+pub fn sum(a: Est, b: Est) -> Est
+    ensures { λ r. ⌜ number r ≡ sum (number a) (number b) ⌝ }
+{
+    match a {
+        Est::Never => a, // never plus anything is never
+        Est::Over => match b {
+            Est::Never => b,
+            Est::Over => b,
+            Est::Exact(_) => a,
+        },
+        Est::Exact(x) => match b {
+            Est::Never => b,
+            Est::Over => b,
+            Est::Exact(y) => {
+                if y <= LARGEST - x {
+                    Est::Exact(x + y)
+                } else {
+                    Est::Over
+                }
+            }
+        },
+    }
+}
+
+// The lesser of two numbers.
+pub fn lesser(a: Est, b: Est) -> Est
+    ensures { λ r. ⌜ number r ≡ lesser (number a) (number b) ⌝ }
+{
+    match a {
+        Est::Never => b,
+        Est::Over => match b {
+            Est::Never => a,
+            Est::Over => a,
+            Est::Exact(_) => b,
+        },
+        Est::Exact(x) => match b {
+            Est::Never => a,
+            Est::Over => a,
+            Est::Exact(y) => { if y < x { b } else { a } }
+        },
+    }
+}
+
+// Whether two numbers are the same.
+pub fn same(a: Est, b: Est) -> bool
+    ensures { λ r. ⌜ r ≡ same (number a) (number b) ⌝ }
+{
+    match a {
+        Est::Never => match b {
+            Est::Never => true,
+            Est::Over => false,
+            Est::Exact(_) => false,
+        },
+        Est::Over => match b {
+            Est::Never => false,
+            Est::Over => true,
+            Est::Exact(_) => false,
+        },
+        Est::Exact(x) => match b {
+            Est::Never => false,
+            Est::Over => false,
+            Est::Exact(y) => x == y,
+        },
+    }
+}
+
+// The array of facts has room for so many variables, and for so many values of each.
+pub const VARIABLES: usize = 57;
+
+pub const VALUES: usize = 66;
+
+// The numbers with which the estimate from a state starts, at variable times 66 plus value: 0 for the facts of the state, else never. Past 57
+// variables and past 66 values nothing is set.
+pub fn start(state: &[u8]) -> [Est; 3762]
+    ensures { λ r. ⌜ HasNumbers r (startNumber (now (state .entry))) ⌝ }
+{
+    let mut numbers = [Est::Never; 3762];
+    for v in 0..VARIABLES {
+        if state.len() <= v {
+            return numbers;
+        }
+        let d = state[v] as usize;
+        if VALUES <= d {
+            continue;
+        }
+        numbers[v * VALUES + d] = Est::Exact(0);
+    }
+    numbers
+}
