@@ -8,7 +8,7 @@ use lib.ListN.{length, take, drop}
 use lib.Seq.{take-at}
 use borrow.Author.Tests.{le-leb, leb-true}
 use Rattle.facts.specs.Read.{Read, accepted, check}
-use Rattle.facts.specs.ReadLaws.{through, checked, value-of, next-of}
+use Rattle.facts.specs.ReadLaws.{through, onward, checked, value-of, next-of}
 use Rattle.facts.specs.Write.{over}
 use Rattle.facts.specs.WriteLaws.{fitting-all}
 use Rattle.facts.specs.Run.{atMost}
@@ -124,13 +124,10 @@ module _ (f : List ℕ) {t : Task} (h : readTask f ≡ accepted t) {list : List 
   contracted-plan =
       let wf = task-wf f h in
       let back = contract-expand t wf list c p in
-      rw (
-        h,
-        list-fits maxProbeList (expand t list) (expand-fits t wf p (task-limits f h) few),
-        probe-plan (probeOf t) (expand t list) c .0 (forward t wf list c p),
-        starts-within (t .actions) (expand t list) maxList 0 (rw back few),
-        back,
-      )
+      onward _ h
+      (onward _ (list-fits maxProbeList (expand t list) (expand-fits t wf p (task-limits f h) few))
+      (onward _ (probe-plan (probeOf t) (expand t list) c .0 (forward t wf list c p))
+      (onward _ (starts-within (t .actions) (expand t list) maxList 0 (rw back few)) (ap (λ (l : List ℕ). accepted (l, c)) back))))
 
 -- ---- what an answer tells
 

@@ -46,6 +46,13 @@ over-capped n = by-cap (λ a. sum over a ≡ over) n (λ h. refl) (λ h. refl)
 capped-sum : (m n : ℕ) → sum (capped m) (exact n) ≡ capped (m + n)
 capped-sum m n = by-cap (λ a. sum a (exact n) ≡ capped (m + n)) m (λ h. refl) (λ h. sym (capped-over (m + n) (omega arith)))
 
+-- of two capped numbers, the sum is the capped sum
+pub sum-capped : (m n : ℕ) → sum (capped m) (capped n) ≡ capped (m + n)
+sum-capped m n =
+    by-cap (λ a. sum (capped m) a ≡ capped (m + n)) n
+    (λ h. capped-sum m n)
+    (λ h. sum-comm (capped m) over ∙ over-capped m ∙ sym (capped-over (m + n) (omega arith)))
+
 pub sum-assoc : (a b c : Number) → sum (sum a b) c ≡ sum a (sum b c)
 sum-assoc never b c = refl
 sum-assoc over never c = refl
@@ -71,6 +78,11 @@ lesser-comm (exact x) = elim [ never ↦ refl | over ↦ refl | exact y ↦ ap e
 
 pub lesser-never : (a : Number) → lesser a never ≡ a
 lesser-never a = lesser-comm a never
+
+pub lesser-zero : (a : Number) → lesser (exact 0) a ≡ exact 0
+lesser-zero never = refl
+lesser-zero over = refl
+lesser-zero (exact n) = ap exact (omega arith)
 
 pub lesser-idem : (a : Number) → lesser a a ≡ a
 lesser-idem never = refl

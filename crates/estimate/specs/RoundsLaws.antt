@@ -84,6 +84,19 @@ module _ (round : List Number → List Number) where
   pub settled-still : (numbers : List Number) → round numbers ≡ numbers → settled round numbers ≡ numbers
   settled-still numbers still = leads-nowhere still (settled-leads numbers)
 
+-- rounds that are the same wherever rounds lead settle on the same
+module _ (P : List Number → Type 0) {round other : List Number → List Number} (agree : (numbers : List Number) → P numbers → round numbers ≡ other numbers)
+    (keeps : (numbers : List Number) → P numbers → P (round numbers)) where
+  settle-agrees : (n : ℕ) (numbers : List Number) → P numbers → settle round n numbers ≡ settle other n numbers
+  settle-agrees zero numbers h = refl
+  settle-agrees (suc n) numbers h =
+      ap (λ (rest : List Number). elim (sameAll numbers (round numbers)) [ true ↦ numbers | false ↦ rest ]) (settle-agrees n (round numbers) (keeps numbers h))
+      ∙ ap (λ (new : List Number). elim (sameAll numbers new) [ true ↦ numbers | false ↦ settle other n new ]) (agree numbers h)
+
+  pub settled-agrees : (numbers : List Number) → P numbers → settled round numbers ≡ settled other numbers
+  unfolding settled
+  settled-agrees numbers h = settle-agrees (total rank numbers) numbers h
+
 module _ {round : List Number → List Number} (lowering : Lowering round) where
   -- a round that does not lower the sum of all ranks changes nothing
   unchanged : (numbers : List Number) → All WithinCap numbers → total rank numbers ≤ total rank (round numbers) → round numbers ≡ numbers

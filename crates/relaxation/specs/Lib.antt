@@ -1,0 +1,16 @@
+-- Definitions, in document 01's order.
+pub mod Least
+pub mod Relaxed
+pub mod Pass
+pub mod RelaxedPass
+pub mod Estimate
+pub mod EstimatePass
+-- The document's cases, computed.
+pub mod Examples
+-- Laws.
+pub mod LeastLaws
+pub mod PassLaws
+pub mod LeastByPass
+pub mod RelaxedLaws
+pub mod LeastCostLaws
+pub mod EstimateLaws
