@@ -12,12 +12,12 @@ use Rattle.facts.specs.Lists.{total, At, here, there}
 use Rattle.facts.specs.ListLaws.{at-length}
 use Rattle.facts.specs.State.{Inside}
 use Rattle.facts.specs.Write.{Wrote}
-use Rattle.task.specs.Task.{Edge, Node, Action, edgeAt, WfAction}
-use Rattle.task.specs.TaskFile.{edgeBytes}
-use Rattle.task.specs.WalkInPlace.{nodeCount}
-use Rattle.task.specs.WalkLaws.{edge-there, edge-wf}
+use Rattle.taskfile.specs.Task.{Edge, Node, Action, edgeAt, WfAction}
+use Rattle.taskfile.specs.TaskFile.{edgeBytes}
+use Rattle.taskfile.specs.WalkInPlace.{nodeCount}
+use Rattle.taskfile.specs.WalkLaws.{edge-there, edge-wf}
 use Rattle.compilation.specs.Compile.{edgeCount}
-use Rattle.compile.specs.InPlace.{edgeIn, edgesIn, nodeIn, nodesIn, actionIn}
+use Rattle.taskfile.specs.PartsInPlace.{edgeIn, edgesIn, nodeIn, nodesIn, actionIn}
 use Rattle.compile.specs.PutLaws.{Cut, Going, going-start, going-room, going-more, going-end}
 use Rattle.compile.specs.InPlaceLaws.{edges-long, nodes-long}
 use Rattle.plans.specs.Carry.{pathSteps, actionList}

@@ -7,8 +7,8 @@ use lib.ListN.{length}
 use Rattle.facts.specs.Read.{Read, accepted, refused, check, _>>=_}
 use Rattle.facts.specs.Write.{over, fitting}
 use Rattle.facts.specs.Run.{atMost}
-use Rattle.task.specs.Task.{Action, maxList, taskSum}
-use Rattle.task.specs.TaskFile.{readTask}
+use Rattle.taskfile.specs.Task.{Action, maxList, taskSum}
+use Rattle.taskfile.specs.TaskFile.{readTask}
 use Rattle.probe.specs.Probe.{probeSum}
 use Rattle.probe.specs.Probe.{maxList as maxProbeList}
 use Rattle.compilation.specs.Compile.{probeOf}

@@ -13,9 +13,9 @@ use Rattle.facts.specs.Read.{Read, accepted, refused, check, withValue, _>>=_}
 use Rattle.facts.specs.ReadLaws.{through, Made, made, not-made, bind-assoc}
 use Rattle.facts.specs.Bytes.{Bytes}
 use Rattle.facts.specs.Run.{atMost}
-use Rattle.task.specs.Task.{Action, Task, maxList}
-use Rattle.task.specs.TaskFile.{readTask, checkTask}
-use Rattle.task.specs.TaskReadLaws.{task-limits}
+use Rattle.taskfile.specs.Task.{Action, Task, maxList}
+use Rattle.taskfile.specs.TaskFile.{readTask, checkTask}
+use Rattle.taskfile.specs.TaskReadLaws.{task-limits}
 use Rattle.probe.specs.Probe.{probeSum}
 use Rattle.probe.specs.Probe.{maxList as maxProbeList}
 use Rattle.probe.specs.ProbeFile.{readProbe, writeProbe, runProbe}

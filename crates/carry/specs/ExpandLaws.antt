@@ -18,21 +18,21 @@ use Rattle.facts.specs.InPlaceLaws.{past-is}
 use Rattle.facts.specs.State.{Inside}
 use Rattle.facts.specs.Write.{Wrote}
 use Rattle.facts.specs.Run.{runFrom, atMost, Reaches, steps}
-use Rattle.task.specs.declared.Task.{Task as Index}
-use Rattle.task.specs.Task.{Action, Task, maxList, actionMove, actionPasses, taskSum, Plan, WfAction}
-use Rattle.task.specs.TaskFile.{readTask, checkTask, runTask}
-use Rattle.task.specs.TaskReadLaws.{task-wf, task-limits}
-use Rattle.task.specs.TaskLaws.{move-known, task-plan}
-use Rattle.task.specs.Index.{Ready}
-use Rattle.task.specs.WalkInPlace.{passesAt, runList}
-use Rattle.task.specs.MoveInPlaceLaws.{passed-in-place}
-use Rattle.task.specs.AnswerLaws.{there as task-there, starts, starts-count}
+use Rattle.taskfile.specs.declared.Task.{Task as Index}
+use Rattle.taskfile.specs.Task.{Action, Task, maxList, actionMove, actionPasses, taskSum, Plan, WfAction}
+use Rattle.taskfile.specs.TaskFile.{readTask, checkTask, runTask}
+use Rattle.taskfile.specs.TaskReadLaws.{task-wf, task-limits}
+use Rattle.taskfile.specs.TaskLaws.{move-known, task-plan}
+use Rattle.taskfile.specs.Index.{Ready}
+use Rattle.taskfile.specs.WalkInPlace.{passesAt, runList}
+use Rattle.taskfile.specs.MoveInPlaceLaws.{passed-in-place}
+use Rattle.taskfile.specs.AnswerLaws.{there as task-there, starts, starts-count}
 use Rattle.probe.specs.Probe.{maxList as maxProbeList}
 use Rattle.compilation.specs.Compile.{edgeCount, stepCount}
 use Rattle.compilation.specs.StepLaws.{steps-length, steps-most}
-use Rattle.compile.specs.InPlace.{actionIn, actionsIn, Stood}
+use Rattle.taskfile.specs.PartsInPlace.{actionIn, actionsIn, Stood}
 use Rattle.compile.specs.PutLaws.{Cut, Going, going-more}
-use Rattle.compile.specs.TaskInPlaceLaws.{reads, located, actions-stood, actions-in-place}
+use Rattle.taskfile.specs.PartsInPlaceLaws.{reads, located, actions-stood, actions-in-place}
 use Rattle.plans.specs.Carry.{firstStep, actionList, expandFrom, expand}
 use Rattle.plans.specs.ListLaws.{total-take}
 use Rattle.plans.specs.LengthLaws.{expand-passed, expand-fits}

@@ -7,13 +7,13 @@ use lib.Dec.{ltb}
 use lib.ListN.{length, getD, set, drop}
 use Rattle.facts.specs.Read.{Read, accepted, check, _>>=_, refused}
 use Rattle.facts.specs.Run.{atMost, runFrom}
-use Rattle.task.specs.Task.{Action, Task, maxList, actionPasses, WfAction}
-use Rattle.task.specs.TaskFile.{readTask, runTask}
+use Rattle.taskfile.specs.Task.{Action, Task, maxList, actionPasses, WfAction}
+use Rattle.taskfile.specs.TaskFile.{readTask, runTask}
 use Rattle.probe.specs.Probe.{probeSum, maxList as maxProbeList}
 use Rattle.compilation.specs.Compile.{probeOf, stepCount}
 use Rattle.plans.specs.Carry.{firstStep, startedBy}
 use Rattle.facts.specs.Lists.{total}
-use Rattle.compile.specs.InPlace.{actionIn, actionsIn, Stood}
+use Rattle.taskfile.specs.PartsInPlace.{actionIn, actionsIn, Stood}
 use Rattle.carry.specs.CarryFile.{expanded}
 
 -- `first-step` has the number of each action's start

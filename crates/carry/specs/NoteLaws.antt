@@ -12,15 +12,15 @@ use lib.Seq.{length-take-le, drop-cons, getD-set-same, getD-set-other, getD-take
 use borrow.Author.Tests.{eqb-true, eqb-false}
 use Rattle.facts.specs.Read.{_>>=_}
 use Rattle.facts.specs.Lists.{total}
-use Rattle.task.specs.declared.Task.{Task as Index}
-use Rattle.task.specs.Task.{Action, Task}
-use Rattle.task.specs.Index.{Ready}
-use Rattle.task.specs.TaskReadLaws.{task-wf, task-limits}
-use Rattle.task.specs.AnswerLaws.{there as task-there}
+use Rattle.taskfile.specs.declared.Task.{Task as Index}
+use Rattle.taskfile.specs.Task.{Action, Task}
+use Rattle.taskfile.specs.Index.{Ready}
+use Rattle.taskfile.specs.TaskReadLaws.{task-wf, task-limits}
+use Rattle.taskfile.specs.AnswerLaws.{there as task-there}
 use Rattle.compilation.specs.Compile.{stepCount}
 use Rattle.compilation.specs.StepLaws.{steps-length, steps-most}
-use Rattle.compile.specs.InPlace.{actionsIn}
-use Rattle.compile.specs.TaskInPlaceLaws.{reads, actions-in-place}
+use Rattle.taskfile.specs.PartsInPlace.{actionsIn}
+use Rattle.taskfile.specs.PartsInPlaceLaws.{reads, actions-in-place}
 use Rattle.plans.specs.Carry.{firstStep, startedBy}
 use Rattle.plans.specs.Contract.{too-low}
 use Rattle.carry.specs.InPlace.{Numbered, Noted, NotedIn, noteFrom}

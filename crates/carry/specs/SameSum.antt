@@ -14,9 +14,9 @@ use lib.ListN.{length, take}
 use Rattle.facts.specs.Read.{Read, accepted}
 use Rattle.facts.specs.Bytes.{Bytes}
 use Rattle.facts.specs.Write.{over}
-use Rattle.task.specs.Task.{Task, Plan}
-use Rattle.task.specs.TaskFile.{readTask}
-use Rattle.task.specs.TaskReadLaws.{task-wf}
+use Rattle.taskfile.specs.Task.{Task, Plan}
+use Rattle.taskfile.specs.TaskFile.{readTask}
+use Rattle.taskfile.specs.TaskReadLaws.{task-wf}
 use Rattle.probe.specs.Probe.{Probe, ProbePlan}
 use Rattle.probe.specs.ProbeFile.{readProbe, writeProbe}
 use Rattle.compilation.specs.Compile.{probeOf}

@@ -13,10 +13,10 @@ use Rattle.facts.specs.Write.{over}
 use Rattle.facts.specs.WriteLaws.{fitting-all}
 use Rattle.facts.specs.Run.{atMost}
 use Rattle.facts.specs.RunLaws.{list-fits}
-use Rattle.task.specs.Task.{Task, maxList, taskSum, Plan}
-use Rattle.task.specs.TaskFile.{readTask}
-use Rattle.task.specs.TaskReadLaws.{task-wf, task-limits}
-use Rattle.task.specs.TaskLaws.{task-plan}
+use Rattle.taskfile.specs.Task.{Task, maxList, taskSum, Plan}
+use Rattle.taskfile.specs.TaskFile.{readTask}
+use Rattle.taskfile.specs.TaskReadLaws.{task-wf, task-limits}
+use Rattle.taskfile.specs.TaskLaws.{task-plan}
 use Rattle.probe.specs.Probe.{probeSum}
 use Rattle.probe.specs.Probe.{maxList as maxProbeList}
 use Rattle.probe.specs.ProbeFile.{writeProbe}

@@ -7,7 +7,7 @@ use mathlib.Core.List.{List, [], _∷_}
 use lib.ListN.{length}
 use Rattle.facts.specs.Read.{accepted, refused}
 use Rattle.facts.specs.ReadLaws.{not-refused}
-use Rattle.task.specs.Task.{Action}
+use Rattle.taskfile.specs.Task.{Action}
 use Rattle.plans.specs.Carry.{startedBy, contractOf}
 use Rattle.plans.specs.Contract.{contract-start, contract-other}
 use Rattle.carry.specs.CarryFile.{startsAtMost}

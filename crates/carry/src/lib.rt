@@ -7,10 +7,10 @@ use compile::Compiled;
 use facts::Checked;
 use facts::Ran;
 use facts::Refusal;
-use task::Task;
+use taskfile::Task;
 ghost use mathlib.Core.Path.{_≡_};
 ghost use lib.ListN.{length};
-ghost use Rattle.task.specs.Index.{Ready};
+ghost use Rattle.taskfile.specs.Index.{Ready};
 ghost use Rattle.carry.specs.CarryFile.{expanded, contracted, answerIn, bufferIn};
 ghost use Rattle.carry.specs.Answers.{carriedAnswer};
 
@@ -29,7 +29,7 @@ pub fn expand(file: &[u8], list: &[u16], out: &mut [u16]) -> Carried
     ensures { λ r. ⌜ carriedAnswer r ≡ answerIn (length (now (out .entry))) (expanded (now (file .entry)) (now (list .entry))) ⌝ }
     ensures { λ r. ⌜ now (out .exit) ≡ bufferIn (now (out .entry)) (expanded (now (file .entry)) (now (list .entry))) ⌝ }
 {
-    let indexed = task::index_of(file);
+    let indexed = taskfile::index_of(file);
     let answer = indexed.answer;
     match answer {
         Checked::Refused(why) => Carried::Refused(why),

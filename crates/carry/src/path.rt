@@ -8,9 +8,9 @@ ghost use lib.ListN.{length};
 ghost use Rattle.facts.specs.Lists.{total};
 ghost use Rattle.facts.specs.State.{Inside};
 ghost use Rattle.facts.specs.Write.{Wrote};
-ghost use Rattle.task.specs.Task.{WfAction};
+ghost use Rattle.taskfile.specs.Task.{WfAction};
 ghost use Rattle.compilation.specs.Compile.{edgeCount, stepCount};
-ghost use Rattle.compile.specs.InPlace.{actionIn};
+ghost use Rattle.taskfile.specs.PartsInPlace.{actionIn};
 ghost use Rattle.plans.specs.Carry.{pathSteps, actionList};
 
 // The bytes of an edge, target and weight.

@@ -5,13 +5,13 @@ use compile::count::node_count;
 use facts::Refusal;
 use facts::number::offset_at;
 use facts::number::offset_within;
-use task::Task;
+use taskfile::Task;
 ghost use mathlib.Core.Path.{_≡_};
 ghost use Prim.Native.Nat.{ℕ, _≤_, _<_};
 ghost use lib.ListN.{length, getD, replicate};
 ghost use Rattle.facts.specs.Write.{Wrote};
-ghost use Rattle.task.specs.Index.{Ready};
-ghost use Rattle.compile.specs.InPlace.{actionsIn};
+ghost use Rattle.taskfile.specs.Index.{Ready};
+ghost use Rattle.taskfile.specs.PartsInPlace.{actionsIn};
 ghost use Rattle.carry.specs.CarryFile.{contracted, answerIn, bufferIn};
 ghost use Rattle.carry.specs.Answers.{carriedAnswer, startsAnswer};
 ghost use Rattle.carry.specs.InPlace.{Numbered, NotedIn, noteFrom, contractIn, countIn, ProbePlanOf};
@@ -51,7 +51,7 @@ pub fn contract_plan(file: &[u8], list: &[u16], sum: u32, out: &mut [u16]) -> Ca
     ensures { λ r. ⌜ carriedAnswer r ≡ answerIn (length (now (out .entry))) (contracted (now (file .entry)) (now (list .entry))) ⌝ }
     ensures { λ r. ⌜ now (out .exit) ≡ bufferIn (now (out .entry)) (contracted (now (file .entry)) (now (list .entry))) ⌝ }
 {
-    let indexed = task::index_of(file);
+    let indexed = taskfile::index_of(file);
     let task = indexed.task;
     let mut action_of = [0; 576];
     note_starts(file, task, &mut action_of);

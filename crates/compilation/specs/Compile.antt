@@ -4,7 +4,7 @@ use mathlib.Core.List.{List, [], _∷_, _++_, map}
 use lib.ListN.{length, replicate}
 use Rattle.facts.specs.Lists.{total}
 use Rattle.facts.specs.Partial.{empty}
-use Rattle.task.specs.Task.{Edge, Node, Action, Task}
+use Rattle.taskfile.specs.Task.{Edge, Node, Action, Task}
 use Rattle.probe.specs.Probe.{Step, Probe}
 use Rattle.compilation.specs.Extend.{extend, clear}
 

@@ -10,22 +10,22 @@ use lib.Pow.{pow-pos, pow-mono}
 use lib.Count.{ones, ones-cat}
 use Rattle.facts.specs.Read.{accepted}
 use Rattle.facts.specs.Lists.{All, At}
-use Rattle.facts.specs.ListLaws.{at-length, all-at}
+use Rattle.facts.specs.ListLaws.{at-length, all-at, total-at}
 use Rattle.facts.specs.Bytes.{Bytes}
 use Rattle.facts.specs.Partial.{Partial, above, empty}
 use Rattle.facts.specs.PartialLaws.{Below, wf-below}
 use Rattle.facts.specs.State.{Inside}
 use Rattle.facts.specs.WellFormed.{Fits, Values, WfPartial}
-use Rattle.task.specs.Task.{Edge, Node, Action, Task, WfTask, Limits, Weights}
-use Rattle.task.specs.TaskFile.{readTask}
-use Rattle.task.specs.TaskReadLaws.{task-wf, task-limits, task-weights}
+use Rattle.taskfile.specs.Task.{Edge, Node, Action, Task, WfTask, Limits, Weights}
+use Rattle.taskfile.specs.TaskFile.{readTask}
+use Rattle.taskfile.specs.TaskReadLaws.{task-wf, task-limits, task-weights}
 use Rattle.probe.specs.Probe.{WfStep, WfProbe}
 use Rattle.probe.specs.ProbeFile.{readProbe, writeProbe}
 use Rattle.probe.specs.ProbeLaws.{read-written}
 use Rattle.compilation.specs.Extend.{extend, clear}
 use Rattle.compilation.specs.Compile.{flat, variables, marker, startStep, edgeStep, endStep, nodeSteps, actionSteps, stepsOf, markerSize, probeOf}
 use Rattle.compilation.specs.ExtendLaws.{below-empty, below-more, above-extend, below-extend, extend-bit}
-use Rattle.compilation.specs.StepLaws.{at-all, all-append, all-map, all-getD, map-at, mapFrom-all, flat-all, total-at, steps-most}
+use Rattle.compilation.specs.StepLaws.{at-all, all-append, all-map, all-getD, map-at, mapFrom-all, flat-all, steps-most}
 
 -- ---- values inside their domains
 

@@ -12,10 +12,10 @@ use Rattle.facts.specs.Partial.{Partial, writePartial}
 use Rattle.facts.specs.PartialLaws.{length-written, inside-length}
 use Rattle.facts.specs.WellFormed.{WfPartial}
 use Rattle.facts.specs.Fields.{writeEach, writeOperator, writeHead}
-use Rattle.task.specs.Task.{Edge, Node, Action, Task, WfAction, WfTask, Limits}
-use Rattle.task.specs.TaskFile.{readTask}
-use Rattle.task.specs.DiagramReadLaws.{Small}
-use Rattle.task.specs.TaskReadLaws.{task-wf, task-limits}
+use Rattle.taskfile.specs.Task.{Edge, Node, Action, Task, WfAction, WfTask, Limits}
+use Rattle.taskfile.specs.TaskFile.{readTask}
+use Rattle.taskfile.specs.DiagramReadLaws.{Small}
+use Rattle.taskfile.specs.TaskReadLaws.{task-wf, task-limits}
 use Rattle.probe.specs.Probe.{Step, Probe}
 use Rattle.probe.specs.ProbeFile.{writeStep, writeProbe}
 use Rattle.compilation.specs.Extend.{extend, clear}

@@ -4,7 +4,7 @@ use mathlib.Core.List.{[], _∷_}
 use lib.ListN.{length}
 use Rattle.facts.specs.Partial.{empty, writePartial}
 use Rattle.facts.specs.Fields.{writeOperator, writeHead}
-use Rattle.task.specs.Examples.{P}
+use Rattle.taskfile.specs.Examples.{P}
 use Rattle.probe.specs.ProbeFile.{writeStep, writeProbe}
 use Rattle.probe.specs.Examples.{P-file, P-probe}
 use Rattle.compilation.specs.Extend.{extend, clear}

@@ -5,8 +5,8 @@ use native.Mathlib.Omega.{arith}
 use mathlib.Core.List.{List, [], _∷_, _++_, map}
 use lib.ListN.{length, getD, length-append}
 use Rattle.facts.specs.Lists.{total, All, At, here, there}
-use Rattle.task.specs.Task.{Node, Action, Task, WfAction, WfTask, Limits}
-use Rattle.task.specs.DiagramReadLaws.{Small}
+use Rattle.taskfile.specs.Task.{Node, Action, Task, WfAction, WfTask, Limits}
+use Rattle.taskfile.specs.DiagramReadLaws.{Small}
 use Rattle.compilation.specs.Compile.{mapFrom, flat, variables, edgeStep, endStep, nodeSteps, actionSteps, stepsOf, edgeCount, stepCount}
 
 -- ---- a property of each element
@@ -51,11 +51,6 @@ flat-all f P k (x ∷ xs) h =
     all-append P (f k x) (flat f (suc k) xs) (h 0 k x here (omega arith)) (flat-all f P (suc k) xs (λ j q y a e. h (suc j) q y (there a) (omega arith)))
 
 -- ---- sums
-
--- One element's size is at most the sum of all.
-pub total-at : {A : Type 0} (size : A → ℕ) {xs : List A} {j : ℕ} {x : A} → At xs j x → size x ≤ total size xs
-total-at size here = omega arith
-total-at size (there h) = omega (arith, total-at size h)
 
 -- Larger sizes have a larger sum.
 pub total-le : {A : Type 0} (f g : A → ℕ) (xs : List A) → All (λ x. f x ≤ g x) xs → total f xs ≤ total g xs

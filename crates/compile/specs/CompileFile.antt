@@ -6,7 +6,7 @@ use lib.ListN.{length}
 use Rattle.facts.specs.Read.{Read, accepted, refused, check, _>>=_}
 use Rattle.facts.specs.Refusal.{number, place}
 use Rattle.facts.specs.Write.{over, fitting}
-use Rattle.task.specs.TaskFile.{readTask}
+use Rattle.taskfile.specs.TaskFile.{readTask}
 use Rattle.probe.specs.ProbeFile.{writeProbe}
 use Rattle.compile.specs.declared.Compiled.{Compiled}
 use Rattle.compile.specs.declared.Compiled.the-variants.{Length, Refused as NotCompiled}

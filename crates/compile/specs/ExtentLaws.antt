@@ -11,14 +11,14 @@ use Rattle.facts.specs.Bytes.{numberAt}
 use Rattle.facts.specs.Lists.{total}
 use Rattle.facts.specs.Partial.{Partial, partialBytes, standingAt, partialAt, pastPartial}
 use Rattle.facts.specs.PartialLaws.{partial-here}
-use Rattle.task.specs.Task.{Action}
-use Rattle.task.specs.WalkInPlace.{nodeCount}
-use Rattle.task.specs.MoveInPlaceLaws.{own-nodes}
+use Rattle.taskfile.specs.Task.{Action}
+use Rattle.taskfile.specs.WalkInPlace.{nodeCount}
+use Rattle.taskfile.specs.MoveInPlaceLaws.{own-nodes}
 use Rattle.probe.specs.Probe.{Step}
 use Rattle.compilation.specs.Compile.{flat, actionSteps, edgeCount}
 use Rattle.compilation.specs.StepLaws.{total-append, action-length}
 use Rattle.compilation.specs.CompiledLengthLaws.{stepBytes, action-total}
-use Rattle.compile.specs.InPlace.{nodesIn, actionIn, actionsIn, Stands, Stood}
+use Rattle.taskfile.specs.PartsInPlace.{nodesIn, actionIn, actionsIn, Stands, Stood}
 use Rattle.compile.specs.InPlaceLaws.{stepsLeft, left-next}
 
 -- ---- what is counted and what is left are together all

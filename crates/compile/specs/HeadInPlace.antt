@@ -4,7 +4,7 @@ use mathlib.Core.List.{List, [], _∷_, _++_, map}
 use lib.ListN.{length, take, drop, replicate}
 use Rattle.facts.specs.Bytes.{bytesOf}
 use Rattle.facts.specs.Partial.{Partial, partialAt, writePartial}
-use Rattle.task.specs.WalkInPlace.{nodeCount}
+use Rattle.taskfile.specs.WalkInPlace.{nodeCount}
 use Rattle.compilation.specs.Extend.{clear}
 
 module _ (f : List ℕ) where

@@ -10,7 +10,7 @@ use lib.Seq.{drop-cons, append-snoc, length-take-le}
 use Rattle.facts.specs.Bytes.{bytesOf}
 use Rattle.facts.specs.Partial.{Partial, writePartial}
 use Rattle.facts.specs.Write.{Wrote}
-use Rattle.task.specs.WalkInPlace.{nodeCount}
+use Rattle.taskfile.specs.WalkInPlace.{nodeCount}
 use Rattle.compilation.specs.Extend.{extend, clear}
 use Rattle.compile.specs.InPlace.{widened}
 use Rattle.compile.specs.HeadInPlace.{markersIn, sizesIn, initIn, goalIn, headIn}

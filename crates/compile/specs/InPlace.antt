@@ -1,12 +1,9 @@
 -- The parts of a task in place: what code writes steps from that goes over the bytes of an accepted file, without reading it into values.
-use Prim.Native.Nat.{ℕ, zero, suc, _+_, _^_, _≤_, _<_}
-use mathlib.Core.List.{List, [], _∷_, _++_}
-use lib.ListN.{length, getD, drop}
-use Rattle.facts.specs.Partial.{Partial, partialBytes, partialAt, empty, pastPartial}
-use Rattle.task.specs.Task.{Edge, Node, Action, maxNodes}
-use Rattle.task.specs.TaskFile.{edgeBytes}
+use Prim.Native.Nat.{ℕ, suc, _+_}
+use mathlib.Core.List.{List, _++_}
+use Rattle.facts.specs.Partial.{Partial, partialAt, empty, pastPartial}
 use Rattle.facts.specs.Fields.{wordAt}
-use Rattle.task.specs.WalkInPlace.{incomingPlace, nodeCount}
+use Rattle.taskfile.specs.WalkInPlace.{incomingPlace}
 use Rattle.probe.specs.Probe.{Step}
 use Rattle.compilation.specs.Extend.{extend}
 use Rattle.compilation.specs.Compile.{marker}
@@ -17,39 +14,6 @@ widened p bits values = record { map = p .map + bits; values = p .values ++ valu
 
 -- the file f
 module _ (f : List ℕ) where
-  -- the edge at an offset
-  abbrev pub edgeIn : ℕ → Edge
-  edgeIn at = record { target = getD f at 0; weight = wordAt f (at + 1) }
-
-  -- `count` edges from an offset on
-  abbrev pub edgesIn : ℕ → ℕ → List Edge
-  edgesIn at zero = []
-  edgesIn at (suc count) = edgeIn at ∷ edgesIn (at + edgeBytes) count
-
-  -- the node at an offset
-  abbrev pub nodeIn : List ℕ → ℕ → Node
-  nodeIn sizes at = record { var = getD f at 0; edges = edgesIn (at + 1) (getD sizes (getD f at 0) 0) }
-
-  -- `count` nodes, at the offsets from index j on
-  abbrev pub nodesIn : List ℕ → List ℕ → ℕ → ℕ → List Node
-  nodesIn sizes offsets j zero = []
-  nodesIn sizes offsets j (suc count) = nodeIn sizes (getD offsets j 0) ∷ nodesIn sizes offsets (suc j) count
-
-  -- the action at an offset, whose own nodes begin at these offsets
-  abbrev pub actionIn : List ℕ → ℕ → List ℕ → Action
-  actionIn sizes at offsets = record {
-    pre = partialAt f at;
-    eff = partialAt f (pastPartial f at);
-    incoming = wordAt f (incomingPlace f at);
-    nodes = nodesIn sizes offsets 0 (nodeCount f at);
-  }
-
-  -- `count` actions from number a on: `actions` has the offset of each, `firsts` the index of its first node in `nodes`
-  abbrev pub actionsIn : List ℕ → List ℕ → List ℕ → List ℕ → ℕ → ℕ → List Action
-  actionsIn sizes actions firsts nodes a zero = []
-  actionsIn sizes actions firsts nodes a (suc count) =
-      actionIn sizes (getD actions a 0) (drop (getD firsts a 0) nodes) ∷ actionsIn sizes actions firsts nodes (suc a) count
-
   -- the start and the end of action a, at an offset, in a task with n variables; the diagram has `count` nodes
   abbrev pub startIn : ℕ → ℕ → ℕ → Step
   startIn n a at = record {
@@ -64,20 +28,3 @@ module _ (f : List ℕ) where
     eff = extend (extend (partialAt f (pastPartial f at)) n 0) (marker n a) 0;
     cost = 0;
   }
-
-  -- The partial state at an offset ends within the file and has facts of the first n variables only.
-  pub record Stands (n at : ℕ) : Type 0 where
-    pub fits : at + partialBytes (partialAt f at) ≤ length f
-    pub below : partialAt f at .map < 2 ^ n
-
-  -- the node at an offset begins within the file and tests one of the variables
-  pub record Tests (sizes : List ℕ) (at : ℕ) : Type 0 where
-    pub fits : at < length f
-    pub below : getD f at 0 < length sizes
-
-  -- the action at an offset, whose own nodes begin at these offsets, is one of an accepted file
-  pub record Stood (sizes : List ℕ) (at : ℕ) (offsets : List ℕ) : Type 0 where
-    pub pre : Stands (length sizes) at
-    pub eff : Stands (length sizes) (pastPartial f at)
-    pub few : nodeCount f at ≤ maxNodes
-    pub nodes : (j : ℕ) → j < nodeCount f at → Tests sizes (getD offsets j 0)

@@ -6,15 +6,16 @@ use native.Mathlib.Numerals.{add-one}
 use mathlib.Core.List.{List, [], _∷_, _++_, append-nil, append-assoc}
 use lib.ListN.{length, getD, drop, length-append}
 use Rattle.facts.specs.Lists.{total}
-use Rattle.task.specs.Task.{Node, Action}
-use Rattle.task.specs.TaskFile.{edgeBytes}
-use Rattle.task.specs.WalkInPlace.{nodeCount}
+use Rattle.taskfile.specs.Task.{Node, Action}
+use Rattle.taskfile.specs.TaskFile.{edgeBytes}
+use Rattle.taskfile.specs.WalkInPlace.{nodeCount}
 use Rattle.facts.specs.Write.{Wrote}
 use Rattle.facts.specs.Fields.{writeEach}
 use Rattle.probe.specs.Probe.{Step}
 use Rattle.probe.specs.ProbeFile.{writeStep}
 use Rattle.compilation.specs.Compile.{mapFrom, flat, edgeStep, endStep, nodeSteps, actionSteps, edgeCount}
-use Rattle.compile.specs.InPlace.{edgeIn, edgesIn, nodeIn, nodesIn, actionIn, actionsIn, startIn, endIn}
+use Rattle.taskfile.specs.PartsInPlace.{edgeIn, edgesIn, nodeIn, nodesIn, actionIn, actionsIn}
+use Rattle.compile.specs.InPlace.{startIn, endIn}
 use Rattle.compile.specs.PutLaws.{Cut, Going, going-start}
 
 -- As many edges as are asked for.

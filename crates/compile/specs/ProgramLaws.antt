@@ -7,9 +7,9 @@ use lib.ListN.{length, take}
 use borrow.Author.Tests.{le-leb, leb-true}
 use Rattle.facts.specs.Read.{Read, accepted, refused, check, withValue, _>>=_}
 use Rattle.facts.specs.ReadLaws.{through, checked, agree}
-use Rattle.task.specs.Task.{Task, maxBytes}
-use Rattle.task.specs.TaskFile.{readTask}
-use Rattle.task.specs.FrontLaws.{front-enough}
+use Rattle.taskfile.specs.Task.{Task, maxBytes}
+use Rattle.taskfile.specs.TaskFile.{readTask}
+use Rattle.taskfile.specs.FrontLaws.{front-enough}
 use Rattle.probe.specs.ProbeFile.{writeProbe}
 use Rattle.compilation.specs.Compile.{probeOf}
 use Rattle.compilation.specs.CompiledLengthLaws.{compiled-length}

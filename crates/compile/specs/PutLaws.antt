@@ -15,11 +15,12 @@ use Rattle.facts.specs.Partial.{Partial, writePartial, partialAt, standingAt, p
 use Rattle.facts.specs.PartialLaws.{length-written, partial-here}
 use Rattle.facts.specs.Fields.{readNumber, wordAt, writeOperator}
 use Rattle.facts.specs.FieldLaws.{number-read}
-use Rattle.task.specs.WalkInPlace.{incomingPlace}
+use Rattle.taskfile.specs.WalkInPlace.{incomingPlace}
 use Rattle.probe.specs.ProbeFile.{writeStep}
 use Rattle.compilation.specs.Extend.{extend}
 use Rattle.compilation.specs.Compile.{marker, edgeStep}
-use Rattle.compile.specs.InPlace.{widened, edgeIn, startIn, endIn}
+use Rattle.taskfile.specs.PartsInPlace.{edgeIn}
+use Rattle.compile.specs.InPlace.{widened, startIn, endIn}
 
 -- What fits is written whole.
 pub wrote-fit : {bytes before now : List ℕ} {n : ℕ} → length bytes ≤ length before → Wrote (fitting bytes before) before now n → Wrote bytes before now n

@@ -12,7 +12,7 @@ ghost use Rattle.facts.specs.Fields.{writeEach};
 ghost use Rattle.facts.specs.Write.{Wrote};
 ghost use Rattle.probe.specs.ProbeFile.{writeStep};
 ghost use Rattle.compilation.specs.Compile.{flat, nodeSteps, actionSteps};
-ghost use Rattle.compile.specs.InPlace.{nodeIn, nodesIn, actionIn, actionsIn, Tests, Stood};
+ghost use Rattle.taskfile.specs.PartsInPlace.{nodeIn, nodesIn, actionIn, actionsIn, Tests, Stood};
 
 // The bytes of an edge, target and weight.
 const EDGE_BYTES: usize = 3;

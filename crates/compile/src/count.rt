@@ -5,9 +5,9 @@ use facts::partial::length_at;
 ghost use mathlib.Core.Path.{_≡_};
 ghost use Prim.Native.Nat.{_*_, _≤_};
 ghost use Rattle.facts.specs.Lists.{total};
-ghost use Rattle.task.specs.WalkInPlace.{nodeCount};
+ghost use Rattle.taskfile.specs.WalkInPlace.{nodeCount};
 ghost use Rattle.compilation.specs.Compile.{edgeCount};
-ghost use Rattle.compile.specs.InPlace.{nodesIn};
+ghost use Rattle.taskfile.specs.PartsInPlace.{nodesIn};
 
 // The number of nodes of the action at an offset.
 pub fn node_count(file: &[u8], at: usize) -> u8

@@ -13,9 +13,9 @@ ghost use lib.ListN.{length, getD, take, drop, replicate};
 ghost use Rattle.facts.specs.Bytes.{bytesOf};
 ghost use Rattle.facts.specs.Partial.{partialAt, partialBytes, writePartial};
 ghost use Rattle.facts.specs.Write.{Wrote};
-ghost use Rattle.task.specs.WalkInPlace.{nodeCount};
+ghost use Rattle.taskfile.specs.WalkInPlace.{nodeCount};
 ghost use Rattle.compilation.specs.Extend.{clear};
-ghost use Rattle.compile.specs.InPlace.{Stands};
+ghost use Rattle.taskfile.specs.PartsInPlace.{Stands};
 ghost use Rattle.compile.specs.HeadInPlace.{markersIn, sizesIn, initIn, goalIn, headIn};
 
 // The length of head and step count, for a task with n variables: a byte for the number of variables, one for each size and initial value, the goal, two bytes.

@@ -8,10 +8,10 @@ ghost use Prim.Native.Nat.{ℕ, _+_, _*_, _≤_, _<_};
 ghost use lib.ListN.{length, getD, drop};
 ghost use Rattle.facts.specs.Lists.{total};
 ghost use Rattle.facts.specs.Partial.{partialAt, partialBytes, pastPartial};
-ghost use Rattle.task.specs.WalkInPlace.{nodeCount};
+ghost use Rattle.taskfile.specs.WalkInPlace.{nodeCount};
 ghost use Rattle.compilation.specs.Compile.{flat, actionSteps, edgeCount};
 ghost use Rattle.compilation.specs.CompiledLengthLaws.{stepBytes};
-ghost use Rattle.compile.specs.InPlace.{nodesIn, actionsIn, Stood};
+ghost use Rattle.taskfile.specs.PartsInPlace.{nodesIn, actionsIn, Stood};
 
 // The bytes of an edge's step: three facts, two maps and a cost.
 const EDGE_STEP: usize = 21;

@@ -9,10 +9,10 @@ mod step;
 use facts::Checked;
 use facts::Refusal;
 use length::extent_of;
-use task::Task;
+use taskfile::Task;
 ghost use mathlib.Core.Path.{_≡_};
 ghost use lib.ListN.{length};
-ghost use Rattle.task.specs.Index.{Ready};
+ghost use Rattle.taskfile.specs.Index.{Ready};
 ghost use Rattle.compile.specs.CompileFile.{compileFile, compiledBuffer, compiledAnswer};
 
 // The length of the file that was written, or the refusal.
@@ -26,7 +26,7 @@ pub fn compile(file: &[u8], out: &mut [u8]) -> Compiled
     ensures { λ r. ⌜ compiledAnswer r ≡ compileFile (now (file .entry)) (length (now (out .entry))) ⌝ }
     ensures { λ r. ⌜ now (out .exit) ≡ compiledBuffer (now (file .entry)) (now (out .entry)) ⌝ }
 {
-    let indexed = task::index_of(file);
+    let indexed = taskfile::index_of(file);
     let answer = indexed.answer;
     match answer {
         Checked::Refused(why) => Compiled::Refused(why),

@@ -14,7 +14,8 @@ ghost use Rattle.facts.specs.Write.{Wrote};
 ghost use Rattle.probe.specs.ProbeFile.{writeStep};
 ghost use Rattle.compilation.specs.Extend.{extend};
 ghost use Rattle.compilation.specs.Compile.{edgeStep};
-ghost use Rattle.compile.specs.InPlace.{edgeIn, startIn, endIn, Stands};
+ghost use Rattle.taskfile.specs.PartsInPlace.{edgeIn, Stands};
+ghost use Rattle.compile.specs.InPlace.{startIn, endIn};
 
 // The partial state at an offset, with semaphore and marker of action a at 0.
 pub fn put_cleared(file: &[u8], at: usize, n: usize, a: usize, out: &mut [u8]) -> usize

@@ -1,11 +1,11 @@
 -- Laws of lists by number and by index.
 use mathlib.Core.Path.{_≡_, refl, ap, subst}
 use mathlib.Core.Option.{some, Option·none-ne-some, Option·some-injective}
-use Prim.Native.Nat.{ℕ, zero, suc, _+_, _<_}
+use Prim.Native.Nat.{ℕ, zero, suc, _+_, _≤_, _<_}
 use native.Mathlib.Omega.{arith}
 use mathlib.Core.List.{List, [], _∷_}
 use lib.ListN.{length, getD, getElem?}
-use Rattle.facts.specs.Lists.{upFrom, All, Zip, nil, cons, At, here, there}
+use Rattle.facts.specs.Lists.{upFrom, total, All, Zip, nil, cons, At, here, there}
 
 -- ---- numbers from k on
 
@@ -64,3 +64,8 @@ module _ {A B : Type 0} {R : A → B → Type 0} where
 pub all-zip : {X : Type 0} (P : X → Type 0) (k : ℕ) (xs : List X) → All P xs → Zip (λ (v : ℕ) x. P x) (upFrom k (length xs)) xs
 all-zip P k [] h = nil
 all-zip P k (x ∷ xs) h = cons (h .0) (all-zip P (suc k) xs (h .1))
+
+-- One element's size is at most the sum of all.
+pub total-at : {A : Type 0} (size : A → ℕ) {xs : List A} {j : ℕ} {x : A} → At xs j x → size x ≤ total size xs
+total-at size here = omega arith
+total-at size (there h) = omega (arith, total-at size h)

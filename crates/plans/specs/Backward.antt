@@ -10,8 +10,8 @@ use Rattle.facts.specs.ListLaws.{look}
 use Rattle.facts.specs.Partial.{holds, apply}
 use Rattle.facts.specs.Run.{Reaches, ends, steps}
 use Rattle.facts.specs.RunLaws.{attempt-next}
-use Rattle.task.specs.Task.{Node, Action, Task, edgeAt, cost, actionMove, Plan, WfTask}
-use Rattle.task.specs.TaskLaws.{move-at}
+use Rattle.taskfile.specs.Task.{Node, Action, Task, edgeAt, cost, actionMove, Plan, WfTask}
+use Rattle.taskfile.specs.TaskLaws.{move-at}
 use Rattle.probe.specs.Probe.{ProbePlan}
 use Rattle.compilation.specs.Compile.{probeOf}
 use Rattle.plans.specs.Carry.{firstStep, expandFrom, expand}

@@ -7,7 +7,7 @@ use lib.Dec.{eqb}
 use lib.ListN.{getD, getElem?, take}
 use Rattle.facts.specs.Lists.{total}
 use Rattle.facts.specs.Partial.{apply}
-use Rattle.task.specs.Task.{Node, Action, Task, edgeAt}
+use Rattle.taskfile.specs.Task.{Node, Action, Task, edgeAt}
 use Rattle.compilation.specs.Compile.{edgeCount, stepCount}
 
 -- the number of the start of action a: all steps of the actions before it come first

@@ -10,7 +10,7 @@ use Rattle.facts.specs.Lists.{At, here, there}
 use Rattle.facts.specs.ListLaws.{look, at-length}
 use Rattle.facts.specs.Partial.{apply}
 use Rattle.facts.specs.Run.{Reaches, steps}
-use Rattle.task.specs.Task.{Action, Task, edgeAt, actionMove, Plan, WfTask}
+use Rattle.taskfile.specs.Task.{Action, Task, edgeAt, actionMove, Plan, WfTask}
 use Rattle.compilation.specs.Compile.{edgeCount, stepCount}
 use Rattle.plans.specs.Carry.{firstStep, expandFrom, expand, startedBy, contractOf, contract}
 use Rattle.plans.specs.ListLaws.{total-take}

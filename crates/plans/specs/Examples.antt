@@ -3,8 +3,8 @@ use mathlib.Core.Path.{_≡_, refl}
 use mathlib.Core.List.{[], _∷_}
 use Rattle.facts.specs.Read.{accepted, refused}
 use Rattle.facts.specs.Run.{runFrom}
-use Rattle.task.specs.Task.{walkFrom, walk, actionMove, taskSum}
-use Rattle.task.specs.Examples.{P}
+use Rattle.taskfile.specs.Task.{walkFrom, walk, actionMove, taskSum}
+use Rattle.taskfile.specs.Examples.{P}
 use Rattle.probe.specs.Probe.{stepMove, probeSum}
 use Rattle.compilation.specs.Compile.{stepsOf, probeOf}
 use Rattle.plans.specs.Carry.{expand, contract}

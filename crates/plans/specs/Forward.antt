@@ -9,8 +9,8 @@ use Rattle.facts.specs.Lists.{At}
 use Rattle.facts.specs.ListLaws.{look}
 use Rattle.facts.specs.Partial.{holds, apply}
 use Rattle.facts.specs.Run.{Reaches, ends, steps}
-use Rattle.task.specs.Task.{Node, Action, Task, edgeAt, Walk, walkFrom, walk, cost, actionMove, Plan, WfTask}
-use Rattle.task.specs.WalkLaws.{edge-wf, walk-node, walk-terminal, walk-induction}
+use Rattle.taskfile.specs.Task.{Node, Action, Task, edgeAt, Walk, walkFrom, walk, cost, actionMove, Plan, WfTask}
+use Rattle.taskfile.specs.WalkLaws.{edge-wf, walk-node, walk-terminal, walk-induction}
 use Rattle.probe.specs.Probe.{ProbePlan}
 use Rattle.compilation.specs.Compile.{probeOf}
 use Rattle.plans.specs.Carry.{firstStep, pathSteps, actionList, expandFrom, expand}

@@ -14,9 +14,9 @@ use Rattle.facts.specs.ListLaws.{look, at-length}
 use Rattle.facts.specs.Partial.{apply}
 use Rattle.facts.specs.Run.{runFrom, Reaches, ends, steps}
 use Rattle.facts.specs.RunLaws.{attempt-next}
-use Rattle.task.specs.Task.{Node, Action, Task, edgeAt, walkFrom, walk, actionMove, actionPasses, maxList, Plan, WfTask, Limits}
-use Rattle.task.specs.WalkLaws.{passed-most}
-use Rattle.task.specs.TaskLaws.{passes-at}
+use Rattle.taskfile.specs.Task.{Node, Action, Task, edgeAt, walkFrom, walk, actionMove, actionPasses, maxList, Plan, WfTask, Limits}
+use Rattle.taskfile.specs.WalkLaws.{passed-most}
+use Rattle.taskfile.specs.TaskLaws.{passes-at}
 use Rattle.probe.specs.Probe.{maxList as maxProbeList}
 use Rattle.compilation.specs.Compile.{edgeCount}
 use Rattle.plans.specs.Carry.{firstStep, pathSteps, actionList, expandFrom, expand}

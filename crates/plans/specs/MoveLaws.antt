@@ -14,8 +14,8 @@ use Rattle.facts.specs.Partial.{Partial, holds, apply}
 use Rattle.facts.specs.PartialLaws.{inside-length, wf-below}
 use Rattle.facts.specs.Run.{Move, next}
 use Rattle.facts.specs.RunLaws.{attempt-next}
-use Rattle.task.specs.Task.{Edge, Node, Action, Task, edgeAt}
-use Rattle.task.specs.WalkLaws.{edge-there}
+use Rattle.taskfile.specs.Task.{Edge, Node, Action, Task, edgeAt}
+use Rattle.taskfile.specs.WalkLaws.{edge-there}
 use Rattle.probe.specs.Probe.{Step, stepMove}
 use Rattle.probe.specs.ProbeLaws.{move-at}
 use Rattle.compilation.specs.Extend.{clear}

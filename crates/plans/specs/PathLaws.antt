@@ -7,7 +7,7 @@ use mathlib.Core.List.{List, [], _∷_}
 use lib.ListN.{length, getD, take}
 use borrow.Author.Tests.{eq-eqb, ne-eqb}
 use Rattle.facts.specs.Lists.{total, At, here, there}
-use Rattle.task.specs.Task.{Node, edgeAt}
+use Rattle.taskfile.specs.Task.{Node, edgeAt}
 use Rattle.compilation.specs.Compile.{edgeCount}
 use Rattle.plans.specs.Carry.{pathSteps}
 

@@ -3,7 +3,7 @@ use mathlib.Core.Path.{_≡_, sym, ap, _∙_}
 use mathlib.Core.Logic.{_↔_}
 use Prim.Native.Nat.{ℕ, _≤_}
 use mathlib.Core.List.{List}
-use Rattle.task.specs.Task.{Task, Plan, WfTask}
+use Rattle.taskfile.specs.Task.{Task, Plan, WfTask}
 use Rattle.probe.specs.Probe.{ProbePlan}
 use Rattle.compilation.specs.Compile.{probeOf}
 use Rattle.plans.specs.Carry.{expand, contract}

@@ -10,7 +10,7 @@ use Rattle.facts.specs.ListLaws.{found}
 use Rattle.facts.specs.Partial.{Partial, holds, apply}
 use Rattle.facts.specs.Run.{Move, next, blocked, attempt, Reaches, ends, steps}
 use Rattle.facts.specs.RunLaws.{attempt-next, attempt-blocked, not-blocked}
-use Rattle.task.specs.Task.{Action, cost, perform as performAction, actionMove}
+use Rattle.taskfile.specs.Task.{Action, cost, perform as performAction, actionMove}
 use Rattle.probe.specs.Probe.{Step, perform as performStep, stepMove}
 
 -- what applied in the state s, with its effect and cost

@@ -15,7 +15,7 @@ use Rattle.facts.specs.ListLaws.{at-length}
 use Rattle.facts.specs.Partial.{Partial, holds, apply, empty}
 use Rattle.facts.specs.PartialLaws.{length-apply, inside-length, apply-inside, Below, wf-below, holds-empty, apply-empty}
 use Rattle.facts.specs.State.{Inside}
-use Rattle.task.specs.Task.{Edge, Action, Task, WfAction, WfTask}
+use Rattle.taskfile.specs.Task.{Edge, Action, Task, WfAction, WfTask}
 use Rattle.compilation.specs.Extend.{extend}
 use Rattle.compilation.specs.Compile.{variables, marker, startStep, edgeStep, endStep}
 use Rattle.compilation.specs.ExtendLaws.{below-empty, below-more, holds-append, apply-append, below-extend, holds-extend, apply-extend}

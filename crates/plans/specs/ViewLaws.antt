@@ -7,7 +7,7 @@ use mathlib.Core.List.{List, [], _∷_}
 use lib.ListN.{take}
 use Rattle.facts.specs.Lists.{total, At, here, there}
 use Rattle.facts.specs.ListLaws.{at-none}
-use Rattle.task.specs.Task.{Edge, Node, Action, Task}
+use Rattle.taskfile.specs.Task.{Edge, Node, Action, Task}
 use Rattle.probe.specs.Probe.{Step}
 use Rattle.compilation.specs.Compile.{flat, variables, startStep, edgeStep, endStep, nodeSteps, actionSteps, stepsOf, edgeCount, stepCount}
 use Rattle.compilation.specs.StepLaws.{node-length, nodes-length, action-length}

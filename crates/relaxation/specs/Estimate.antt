@@ -9,7 +9,7 @@ use Rattle.facts.specs.Partial.{Partial, above}
 use Rattle.estimate.specs.Number.{Number, exact, never, capped, sum, lesser}
 use Rattle.estimate.specs.Facts.{startNumber}
 use Rattle.estimate.specs.Rounds.{roundOf, settled}
-use Rattle.task.specs.Task.{Node, Action, Task, cost}
+use Rattle.taskfile.specs.Task.{Node, Action, Task, cost}
 use Rattle.relaxation.specs.Least.{leastOver, valuesSum}
 
 -- ---- one number for every fact

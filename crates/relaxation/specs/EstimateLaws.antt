@@ -17,7 +17,7 @@ use Rattle.estimate.specs.NumberLaws.{lesser-zero, sum-within, lesser-within}
 use Rattle.estimate.specs.Facts.{startNumber}
 use Rattle.estimate.specs.Rounds.{lowered, roundOf, Lowering}
 use Rattle.estimate.specs.RoundsLaws.{settled-agrees, round-lowering}
-use Rattle.task.specs.Task.{Action, Task, WfTask}
+use Rattle.taskfile.specs.Task.{Action, Task, WfTask}
 use Rattle.relaxation.specs.LeastLaws.{map-agree}
 use Rattle.relaxation.specs.Estimate.{factsFrom, factPlace, factNumber, factsSum, Offer, hasFact, offered, offerOf, leastCost, offersBy, estimateBy, estimate}
 use Rattle.relaxation.specs.EstimatePass.{leastCostByPass, estimateByPass}

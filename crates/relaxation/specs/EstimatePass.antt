@@ -4,7 +4,7 @@ use mathlib.Core.List.{List}
 use lib.ListN.{getD}
 use Rattle.facts.specs.Lists.{upFrom}
 use Rattle.estimate.specs.Number.{Number, exact, never, capped, sum, lesser}
-use Rattle.task.specs.Task.{Action, Task}
+use Rattle.taskfile.specs.Task.{Action, Task}
 use Rattle.relaxation.specs.Least.{leastOf}
 use Rattle.relaxation.specs.Pass.{Pass, leastFrom}
 use Rattle.relaxation.specs.Estimate.{estimateBy}

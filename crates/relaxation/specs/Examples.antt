@@ -5,8 +5,8 @@ use mathlib.Core.List.{List, [], _∷_}
 use Rattle.facts.specs.Partial.{Partial, empty}
 use Rattle.estimate.specs.Number.{exact, never}
 use Rattle.estimate.specs.Rounds.{settled}
-use Rattle.task.specs.Task.{Edge, Action, Task, walkFrom, walk}
-use Rattle.task.specs.Examples.{P, xy²+z+2}
+use Rattle.taskfile.specs.Task.{Edge, Action, Task, walkFrom, walk}
+use Rattle.taskfile.specs.Examples.{P, xy²+z+2}
 use Rattle.relaxation.specs.Relaxed.{relaxedCost}
 use Rattle.relaxation.specs.Estimate.{leastCost, offersBy, estimateBy, estimate}
 

@@ -10,8 +10,8 @@ use lib.ListN.{length, getD, length-append}
 use lib.Seq.{append-snoc, getD-at}
 use Rattle.facts.specs.Lists.{All, At}
 use Rattle.facts.specs.ListLaws.{at-getD, all-at}
-use Rattle.task.specs.Task.{Edge, Node, Action, edgeAt, Walk, walkFrom, walk, cost, level, WfEdge, WfAction}
-use Rattle.task.specs.WalkLaws.{walk-at, walk-past, level-node, level-terminal}
+use Rattle.taskfile.specs.Task.{Edge, Node, Action, edgeAt, Walk, walkFrom, walk, cost, level, WfEdge, WfAction}
+use Rattle.taskfile.specs.WalkLaws.{walk-at, walk-past, level-node, level-terminal}
 use Rattle.relaxation.specs.Least.{leastOf, states, leastOver, valuesSum, MinPlus}
 use Rattle.relaxation.specs.LeastLaws.{map-agree, states-some, least-sum, over-next}
 use Rattle.relaxation.specs.Pass.{edgeFor, Pass, leastFrom}

@@ -12,7 +12,7 @@ use Rattle.facts.specs.Lists.{upFrom, All, At, here, there}
 use Rattle.facts.specs.ListLaws.{length-upFrom, at-upFrom}
 use Rattle.estimate.specs.Number.{Number, exact, never, capped, sum, lesser}
 use Rattle.estimate.specs.NumberLaws.{sum-comm, sum-assoc, sum-capped, sum-lesser, lesser-comm, lesser-assoc, lesser-zero}
-use Rattle.task.specs.Task.{Node, Action, WfAction}
+use Rattle.taskfile.specs.Task.{Node, Action, WfAction}
 use Rattle.relaxation.specs.Least.{leastOf, MinPlus}
 use Rattle.relaxation.specs.PassLaws.{pass-agrees}
 use Rattle.relaxation.specs.LeastByPass.{weighed, Usable, Choice, Choices, last, next, least-by-pass}

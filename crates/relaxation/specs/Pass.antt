@@ -2,7 +2,7 @@
 use Prim.Native.Nat.{ℕ, suc, _-_}
 use mathlib.Core.List.{List, [], _∷_, map}
 use lib.ListN.{getD}
-use Rattle.task.specs.Task.{Edge, Node}
+use Rattle.taskfile.specs.Task.{Edge, Node}
 
 -- the edge of a node for the value d of its variable
 abbrev pub edgeFor : Node → ℕ → Edge

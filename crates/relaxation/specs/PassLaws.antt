@@ -5,7 +5,7 @@ use native.Mathlib.Omega.{arith}
 use mathlib.Core.List.{List, [], _∷_, map}
 use lib.ListN.{length, getD}
 use Rattle.facts.specs.Lists.{At, here, there}
-use Rattle.task.specs.Task.{Node}
+use Rattle.taskfile.specs.Task.{Node}
 use Rattle.relaxation.specs.LeastLaws.{map-agree}
 use Rattle.relaxation.specs.Pass.{edgeFor, Pass, leastFroms, leastFrom}
 

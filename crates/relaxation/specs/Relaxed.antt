@@ -2,7 +2,7 @@
 use Prim.Native.Nat.{ℕ, zero, suc, _/_, _%_, _^_, _<_, min}
 use mathlib.Core.List.{List, [], _∷_, map}
 use Rattle.facts.specs.Lists.{Zip}
-use Rattle.task.specs.Task.{Action, maxValues, cost}
+use Rattle.taskfile.specs.Task.{Action, maxValues, cost}
 use Rattle.relaxation.specs.Least.{leastOver}
 
 -- the values of a set, "bit d for value d": its lowest bit is for value d, and n bits are looked at

@@ -8,7 +8,7 @@ use lib.ListN.{length, getD}
 use lib.Pow.{pow-mono}
 use Rattle.facts.specs.Lists.{All, nil, cons, At, here, there}
 use Rattle.facts.specs.ListLaws.{at-getD, all-at}
-use Rattle.task.specs.Task.{Action, maxValues, WfAction}
+use Rattle.taskfile.specs.Task.{Action, maxValues, WfAction}
 use Rattle.relaxation.specs.Least.{leastOf, leastOver, valuesSum, MinPlus}
 use Rattle.relaxation.specs.Relaxed.{valuesFrom, valuesIn, SetInside, RelaxedInside, relaxedCost}
 use Rattle.relaxation.specs.PassLaws.{pass-agrees}

@@ -2,7 +2,7 @@
 use Prim.Native.Nat.{ℕ, _+_, min}
 use mathlib.Core.List.{List}
 use lib.ListN.{getD}
-use Rattle.task.specs.Task.{Action}
+use Rattle.taskfile.specs.Task.{Action}
 use Rattle.relaxation.specs.Least.{leastOf}
 use Rattle.relaxation.specs.Relaxed.{valuesIn}
 use Rattle.relaxation.specs.Pass.{Pass, leastFrom}

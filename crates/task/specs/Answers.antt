@@ -1,31 +1,11 @@
--- What the answers of the code mean.
+-- What the answers of the operations mean.
 use Prim.Native.Nat.{ℕ}
 use Rattle.facts.specs.Refusal.{number, place}
-use Rattle.facts.specs.Read.{Read, accepted, refused, withValue}
-use Rattle.facts.specs.Answers.{ranAnswer}
-use Rattle.task.specs.declared.Drawn.{Drawn}
-use Rattle.task.specs.declared.Drawn.the-variants.{Next as NextField, Refused as NotDrawn}
-use Rattle.task.specs.declared.Counted.{Counted}
-use Rattle.task.specs.declared.Counted.the-variants.{Actions, Refused as NotCounted}
+use Rattle.facts.specs.Read.{Read, accepted, refused}
 use Rattle.task.specs.declared.Costed.{Costed}
 use Rattle.task.specs.declared.Costed.the-variants.{Cost, Refused as NotCosted}
-use Rattle.task.specs.declared.action.Run.{Run}
-
--- the offset past a diagram or an action, and how many nodes it has
-abbrev pub drawnAnswer : Drawn → Read (ℕ × ℕ)
-drawnAnswer (NextField at nodes) = accepted (at, nodes)
-drawnAnswer (NotDrawn why) = refused (number why) (place why)
-
--- how many variables and how many actions a file has
-abbrev pub countedAnswer : Counted → Read (ℕ × ℕ)
-countedAnswer (Actions variables actions) = accepted (variables, actions)
-countedAnswer (NotCounted why) = refused (number why) (place why)
 
 -- the cost of an action
 abbrev pub costedAnswer : Costed → Read ℕ
 costedAnswer (Cost cost) = accepted cost
 costedAnswer (NotCosted why) = refused (number why) (place why)
-
--- how many nodes the walks of a run pass, where it has a sum
-abbrev pub passedAnswer : Run → Read ℕ
-passedAnswer r = withValue (λ sum. r .passed) (ranAnswer (r .answer))

@@ -1,59 +1,17 @@
-// Task files: read, costed and run.
-pub mod action;
-mod diagram;
-mod index;
-pub mod walk;
-
+// Operations on task files: checked, costed and run.
 use facts::Checked;
 use facts::Ran;
 use facts::Refusal;
 use facts::number::offset_within;
+use taskfile::Task;
+use taskfile::action::run_list;
+use taskfile::index_of;
+use taskfile::walk::walk_at;
 ghost use mathlib.Core.Path.{_≡_};
 ghost use Rattle.facts.specs.Answers.{checkedAnswer, ranAnswer};
-ghost use Rattle.task.specs.TaskFile.{checkTask, costTask, runTask};
+ghost use Rattle.taskfile.specs.TaskFile.{checkTask, costTask, runTask};
+ghost use Rattle.taskfile.specs.Index.{Ready};
 ghost use Rattle.task.specs.Answers.{costedAnswer};
-ghost use Rattle.task.specs.Index.{IndexOf, Ready};
-
-// Where the parts of an accepted task file stand: how many variables and actions it has, where each action starts, which of all nodes is its first, and where each node starts.
-pub struct Task {
-    pub variables: usize,
-    pub actions: usize,
-    pub starts: [usize; 32],
-    pub firsts: [usize; 32],
-    pub nodes: [usize; 64],
-}
-
-impl Task {
-    pub const MAX_VARIABLES: u64 = 24;
-
-    pub const MAX_VALUES: u64 = 8;
-
-    pub const MAX_ACTIONS: u64 = 32;
-
-    pub const MAX_NODES: usize = 64;
-
-    pub const MAX_BYTES: usize = 3826;
-
-    pub const MAX_LIST: usize = 256;
-}
-
-// The index of a file, and whether it is accepted.
-pub struct Indexed {
-    pub answer: Checked,
-    pub task: Task,
-}
-
-// Where the next field starts, and how many nodes the diagram before it has.
-pub enum Drawn {
-    Next(usize, usize),
-    Refused(Refusal),
-}
-
-// How many variables and how many actions an accepted file has.
-pub enum Counted {
-    Actions(usize, usize),
-    Refused(Refusal),
-}
 
 // What an action costs.
 pub enum Costed {
@@ -67,38 +25,6 @@ pub fn check(file: &[u8]) -> Checked
 {
     let indexed = index_of(file);
     indexed.answer
-}
-
-// Where the parts of a task file stand, if it is accepted.
-pub fn index_of(file: &[u8]) -> Indexed
-    ensures { λ r. ⌜ IndexOf (now (file .entry)) r ⌝ }
-{
-    let mut action_at = [0; 32];
-    let mut first_node = [0; 32];
-    let mut node_at = [0; 64];
-    let counted = index::index_into(file, &mut action_at, &mut first_node, &mut node_at);
-    match counted {
-        Counted::Refused(why) => Indexed {
-            answer: Checked::Refused(why),
-            task: Task {
-                variables: 0,
-                actions: 0,
-                starts: action_at,
-                firsts: first_node,
-                nodes: node_at,
-            },
-        },
-        Counted::Actions(variables, actions) => Indexed {
-            answer: Checked::Accepted,
-            task: Task {
-                variables: variables,
-                actions: actions,
-                starts: action_at,
-                firsts: first_node,
-                nodes: node_at,
-            },
-        },
-    }
 }
 
 // What an action costs in a state, whether or not it applies there: the file's refusals, then 11 for the number, then 12 and 4 for the state.
@@ -134,7 +60,7 @@ fn cost_in(file: &[u8], task: Task, action: usize, state: &[u8]) -> Costed
             let firsts = task.firsts;
             let nodes = task.nodes;
             let first = offset_within(&firsts, action, Task::MAX_NODES);
-            let walked = walk::walk_at(file, starts[action], &nodes[first..], state);
+            let walked = walk_at(file, starts[action], &nodes[first..], state);
             Costed::Cost(walked.cost)
         }
     }
@@ -169,7 +95,7 @@ fn run_in(file: &[u8], task: Task, list: &[u16]) -> Ran
     let goal = init + variables;
     let mut state = [0; 24];
     bytes::copy(&file[init..goal], &mut state[..variables]);
-    let run = action::run_list(
+    let run = run_list(
         file,
         goal,
         &starts[..actions],

@@ -6,9 +6,9 @@ use denote.Ref.{now}
 use lib.ListN.{length}
 use Rattle.facts.specs.Read.{accepted, withValue}
 use Rattle.facts.specs.Answers.{ranAnswer}
-use Rattle.task.specs.TaskFile.{runTask}
+use Rattle.taskfile.specs.TaskFile.{runTask}
 use Rattle.probe.specs.Probe.{maxList}
-use Rattle.compile.specs.TaskInPlaceLaws.{reads}
+use Rattle.taskfile.specs.PartsInPlaceLaws.{reads}
 use Rattle.carry.specs.InPlace.{passedTask, expansion}
 use Rattle.carry.specs.ExpandLaws.{needed-is, expand-no-list, expand-plan}
 use Rattle.carry.specs.AnswerLaws.{refused-in, short-in, wrote-in}

@@ -7,13 +7,14 @@ use lib.ListN.{length, take, drop}
 use lib.Seq.{length-take-le}
 use borrow.Rule.Slice.PartMut.{putMid}
 use Rattle.facts.specs.Write.{Wrote}
-use Rattle.task.specs.TaskReadLaws.{task-wf, task-limits}
-use Rattle.task.specs.AnswerLaws.{There, there, Starts, starts}
+use Rattle.taskfile.specs.TaskReadLaws.{task-wf, task-limits}
+use Rattle.taskfile.specs.AnswerLaws.{There, there, Starts, starts}
 use Rattle.probe.specs.ProbeFile.{writeProbe}
 use Rattle.compilation.specs.Compile.{probeOf}
 use Rattle.compilation.specs.StepLaws.{steps-most}
 use Rattle.compilation.specs.CompiledLengthLaws.{compiled-length}
-use Rattle.compile.specs.TaskInPlaceLaws.{actions-stood, steps-in-place, goal-stands, file-length, front-room, front-inside, steps-room, file-wrote, compile-short, compile-wrote}
+use Rattle.taskfile.specs.PartsInPlaceLaws.{actions-stood, goal-stands}
+use Rattle.compile.specs.TaskInPlaceLaws.{steps-in-place, file-length, front-room, front-inside, steps-room, file-wrote, compile-short, compile-wrote}
 use borrow.Author.Needs.{needs}
 use native.Mathlib.Omega.{arith}
 use Rattle.compile.proofs.compile_in.Statement.{statement}

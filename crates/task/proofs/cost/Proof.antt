@@ -2,7 +2,7 @@
 use mathlib.Core.Path.{_≡_, sym, ap, _∙_}
 use denote.Ref.{now}
 use Rattle.facts.specs.Answers.{checkedAnswer}
-use Rattle.task.specs.AnswerLaws.{cost-refused}
+use Rattle.taskfile.specs.AnswerLaws.{cost-refused}
 use borrow.Author.Needs.{needs}
 use Rattle.task.proofs.cost.Statement.{statement}
 use Rattle.task.proofs.cost.Tie as tie

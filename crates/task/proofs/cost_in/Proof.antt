@@ -6,9 +6,9 @@ use denote.Ref.{now}
 use lib.ListN.{getD, take, drop}
 use Rattle.facts.specs.Read.{accepted}
 use Rattle.facts.specs.Answers.{checkedAnswer}
-use Rattle.task.specs.WalkInPlace.{walkAt}
-use Rattle.task.specs.MoveInPlaceLaws.{own-nodes}
-use Rattle.task.specs.AnswerLaws.{starts, cost-missing, cost-state, cost-is}
+use Rattle.taskfile.specs.WalkInPlace.{walkAt}
+use Rattle.taskfile.specs.MoveInPlaceLaws.{own-nodes}
+use Rattle.taskfile.specs.AnswerLaws.{starts, cost-missing, cost-state, cost-is}
 use borrow.Author.Needs.{needs}
 use native.Mathlib.Omega.{arith}
 use Rattle.task.proofs.cost_in.Statement.{statement}

@@ -1,7 +1,7 @@
 -- `task::run` meets its contract: the file, and then the run. Assumes nothing.
 use mathlib.Core.Path.{sym, ap, _∙_}
 use Rattle.facts.specs.Answers.{checkedAnswer}
-use Rattle.task.specs.AnswerLaws.{run-refused}
+use Rattle.taskfile.specs.AnswerLaws.{run-refused}
 use borrow.Author.Needs.{needs}
 use Rattle.task.proofs.run.Statement.{statement}
 use Rattle.task.proofs.run.Tie as tie

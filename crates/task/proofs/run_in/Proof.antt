@@ -7,8 +7,8 @@ use lib.ListN.{length, take, drop, replicate, length-take, length-drop, length-a
 use lib.Seq.{length-take-le, take-at}
 use Rattle.facts.specs.WriteLaws.{copied}
 use Rattle.facts.specs.Partial.{partialAt}
-use Rattle.task.specs.WalkInPlace.{moveAt, runList}
-use Rattle.task.specs.AnswerLaws.{Starts, starts, run-is}
+use Rattle.taskfile.specs.WalkInPlace.{moveAt, runList}
+use Rattle.taskfile.specs.AnswerLaws.{Starts, starts, run-is}
 use borrow.Author.Needs.{needs}
 use native.Mathlib.Omega.{arith}
 use Rattle.task.proofs.run_in.Statement.{statement}

@@ -4,8 +4,8 @@ use Prim.Native.Nat.{_≤_}
 use native.Mathlib.Omega.{arith}
 use denote.Ref.{now}
 use lib.ListN.{length, set, length-set}
-use Rattle.task.specs.Task.{Action}
-use Rattle.compile.specs.InPlace.{actionIn}
+use Rattle.taskfile.specs.Task.{Action}
+use Rattle.taskfile.specs.PartsInPlace.{actionIn}
 use Rattle.compile.specs.PutLaws.{going-inside, going-same, going-end}
 use Rattle.carry.specs.ActionLaws.{start-room, path-room, action-going}
 use borrow.Author.Needs.{needs}

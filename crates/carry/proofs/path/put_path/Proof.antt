@@ -4,7 +4,7 @@ use Prim.Native.Nat.{suc, _-_, _<_}
 use native.Mathlib.Omega.{arith}
 use lib.ListN.{length-set}
 use denote.Ref.{now}
-use Rattle.task.specs.WalkInPlace.{nodeCount}
+use Rattle.taskfile.specs.WalkInPlace.{nodeCount}
 use Rattle.compile.specs.PutLaws.{going-same}
 use Rattle.carry.specs.ActionLaws.{Visited, visited, Passing, passing-start, passing-small, passing-room, passing-next, last-is, last-room, last-wrote}
 use borrow.Author.Needs.{needs}

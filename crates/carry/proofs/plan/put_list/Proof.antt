@@ -7,9 +7,9 @@ use denote.Ref.{now}
 use lib.ListN.{length, getD, take, drop}
 use Rattle.facts.specs.PartialLaws.{inside-length}
 use Rattle.facts.specs.State.{Inside}
-use Rattle.task.specs.Task.{Action}
-use Rattle.task.specs.MoveInPlaceLaws.{own-nodes}
-use Rattle.compile.specs.InPlace.{actionsIn}
+use Rattle.taskfile.specs.Task.{Action}
+use Rattle.taskfile.specs.MoveInPlaceLaws.{own-nodes}
+use Rattle.taskfile.specs.PartsInPlace.{actionsIn}
 use Rattle.compile.specs.PutLaws.{Going, going-start, going-inside, going-same, going-room, going-more, going-end}
 use Rattle.plans.specs.Carry.{expandFrom}
 use Rattle.carry.specs.ExpandLaws.{Entry, entry-there, entry-inside, entry-next, entries-none}

@@ -7,7 +7,7 @@ use denote.Ref.{now}
 use lib.ListN.{length, take, drop}
 use lib.Seq.{length-take-le}
 use Rattle.facts.specs.Write.{Wrote}
-use Rattle.task.specs.AnswerLaws.{There, there, Starts, starts}
+use Rattle.taskfile.specs.AnswerLaws.{There, there, Starts, starts}
 use Rattle.carry.specs.ExpandLaws.{init-inside, prepared, entries-are}
 use borrow.Author.Needs.{needs}
 use Rattle.carry.proofs.plan.put_plan.Statement.{statement}

@@ -7,8 +7,8 @@ use denote.Ref.{now}
 use lib.ListN.{length, take}
 use lib.Seq.{length-take-le}
 use Rattle.facts.specs.Partial.{partialAt}
-use Rattle.task.specs.WalkInPlace.{moveAt, passesAt, runList}
-use Rattle.task.specs.AnswerLaws.{Starts, starts, run-is}
+use Rattle.taskfile.specs.WalkInPlace.{moveAt, passesAt, runList}
+use Rattle.taskfile.specs.AnswerLaws.{Starts, starts, run-is}
 use Rattle.carry.specs.ExpandLaws.{passed-is}
 use borrow.Author.Needs.{needs}
 use Rattle.carry.proofs.plan.run_plan.Statement.{statement}

@@ -5,7 +5,7 @@ use native.Mathlib.Omega.{arith}
 use lib.ListN.{length, take, drop}
 use lib.Seq.{length-take-le}
 use denote.Ref.{now}
-use Rattle.task.specs.AnswerLaws.{there, Starts, starts}
+use Rattle.taskfile.specs.AnswerLaws.{there, Starts, starts}
 use Rattle.carry.specs.NoteLaws.{start-below, note-in}
 use borrow.Author.Needs.{needs}
 use Rattle.carry.proofs.starts.note_starts.Statement.{statement}

@@ -3,7 +3,7 @@ use Prim.Native.Nat.{_-_, _≤_}
 use native.Mathlib.Omega.{arith}
 use denote.Ref.{now}
 use lib.ListN.{length, getD}
-use Rattle.compile.specs.InPlace.{actionsIn}
+use Rattle.taskfile.specs.PartsInPlace.{actionsIn}
 use Rattle.compile.specs.ExtentLaws.{edges-own}
 use Rattle.carry.specs.ExpandLaws.{actions-long, actions-at, Numbering, numbering-start, numbering-next, numbering-end}
 use borrow.Author.Needs.{needs}

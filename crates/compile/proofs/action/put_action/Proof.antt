@@ -9,7 +9,8 @@ use Rattle.facts.specs.Fields.{writeEach}
 use Rattle.facts.specs.WriteLaws.{wrote-inside, wrote-room, wrote-then}
 use Rattle.probe.specs.ProbeFile.{writeStep}
 use Rattle.compilation.specs.Compile.{flat, nodeSteps}
-use Rattle.compile.specs.InPlace.{nodesIn, startIn, endIn, Tests}
+use Rattle.taskfile.specs.PartsInPlace.{nodesIn, Tests}
+use Rattle.compile.specs.InPlace.{startIn, endIn}
 use Rattle.compile.specs.InPlaceLaws.{action-long, wrote-action}
 use borrow.Author.Needs.{needs}
 use Rattle.compile.proofs.action.put_action.Statement.{statement}

@@ -6,10 +6,10 @@ use native.Mathlib.Omega.{arith}
 use lib.ListN.{length, getD, take, drop}
 use denote.Ref.{now}
 use Rattle.facts.specs.Fields.{writeEach}
-use Rattle.task.specs.MoveInPlaceLaws.{own-nodes}
+use Rattle.taskfile.specs.MoveInPlaceLaws.{own-nodes}
 use Rattle.probe.specs.ProbeFile.{writeStep}
 use Rattle.compilation.specs.Compile.{flat, actionSteps}
-use Rattle.compile.specs.InPlace.{actionIn, actionsIn, Stood}
+use Rattle.taskfile.specs.PartsInPlace.{actionIn, actionsIn, Stood}
 use Rattle.compile.specs.PutLaws.{Going, Cut, going-inside, going-same, going-room, going-more, going-end}
 use Rattle.compile.specs.InPlaceLaws.{actionsFrom, actions-start, actions-cut, actions-none}
 use borrow.Author.Needs.{needs}

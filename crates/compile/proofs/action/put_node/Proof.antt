@@ -10,7 +10,7 @@ use Rattle.probe.specs.Probe.{Step}
 use Rattle.probe.specs.ProbeFile.{writeStep}
 use Rattle.compilation.specs.Compile.{mapFrom, edgeStep}
 use Rattle.compilation.specs.CompiledLengthLaws.{step-written}
-use Rattle.compile.specs.InPlace.{edgeIn, edgesIn}
+use Rattle.taskfile.specs.PartsInPlace.{edgeIn, edgesIn}
 use Rattle.compile.specs.PutLaws.{Cut, Going, going-inside, going-same, going-room, going-more, going-end}
 use Rattle.compile.specs.InPlaceLaws.{node-is, stepsFrom, steps-start, steps-cut, steps-none, wrote-node}
 use borrow.Author.Needs.{needs}

@@ -8,7 +8,7 @@ use denote.Ref.{now}
 use Rattle.facts.specs.Fields.{writeEach}
 use Rattle.probe.specs.ProbeFile.{writeStep}
 use Rattle.compilation.specs.Compile.{flat, nodeSteps}
-use Rattle.compile.specs.InPlace.{nodeIn, nodesIn, Tests}
+use Rattle.taskfile.specs.PartsInPlace.{nodeIn, nodesIn, Tests}
 use Rattle.compile.specs.PutLaws.{Cut, Going, going-inside, going-same, going-room, going-more, going-end}
 use Rattle.compile.specs.InPlaceLaws.{nodesFrom, nodes-start, nodes-cut, nodes-none}
 use borrow.Author.Needs.{needs}

@@ -5,7 +5,7 @@ use native.Mathlib.Omega.{arith}
 use denote.Ref.{now}
 use Rattle.facts.specs.Lists.{total}
 use Rattle.compilation.specs.Compile.{edgeCount}
-use Rattle.compile.specs.InPlace.{nodesIn}
+use Rattle.taskfile.specs.PartsInPlace.{nodesIn}
 use Rattle.compile.specs.InPlaceLaws.{edges-start, edges-left, edges-none}
 use borrow.Author.Needs.{needs}
 use Rattle.compile.proofs.count.edge_count.Statement.{statement}

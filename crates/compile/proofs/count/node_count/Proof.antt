@@ -2,7 +2,7 @@
 use mathlib.Core.Path.{sym}
 use mathlib.Core.List.{[]}
 use denote.Ref.{now}
-use Rattle.task.specs.WalkInPlaceLaws.{count-same, count-none}
+use Rattle.taskfile.specs.WalkInPlaceLaws.{count-same, count-none}
 use Rattle.facts.specs.InPlaceLaws.{past-is}
 use borrow.Author.Needs.{needs}
 use Rattle.compile.proofs.count.node_count.Statement.{statement}

@@ -4,7 +4,7 @@ use mathlib.Core.List.{[], _∷_}
 use native.Mathlib.Omega.{arith}
 use lib.ListN.{length, length-map}
 use denote.Ref.{now}
-use Rattle.task.specs.WalkInPlace.{nodeCount}
+use Rattle.taskfile.specs.WalkInPlace.{nodeCount}
 use Rattle.compile.specs.HeadInPlace.{markersIn}
 use Rattle.compile.specs.PutLaws.{Cut, Going, going-inside, going-same, going-room, going-more, going-end}
 use Rattle.compile.specs.HeadLaws.{markersFrom, markers-start, markers-cut, markers-none}

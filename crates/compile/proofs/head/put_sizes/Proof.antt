@@ -6,7 +6,7 @@ use lib.ListN.{length, take, drop, length-append, length-drop, length-map}
 use lib.Seq.{length-take-le}
 use denote.Ref.{now}
 use Rattle.facts.specs.WriteLaws.{wrote-room, wrote-then}
-use Rattle.task.specs.WalkInPlace.{nodeCount}
+use Rattle.taskfile.specs.WalkInPlace.{nodeCount}
 use Rattle.compile.specs.HeadInPlace.{markersIn}
 use Rattle.compile.specs.HeadLaws.{wrote-sizes}
 use borrow.Author.Needs.{needs}

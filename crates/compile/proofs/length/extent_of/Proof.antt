@@ -4,7 +4,7 @@ use native.Mathlib.Omega.{arith}
 use lib.ListN.{length, getD, drop}
 use denote.Ref.{now}
 use Rattle.compilation.specs.Compile.{flat, actionSteps}
-use Rattle.compile.specs.InPlace.{actionsIn, Stood}
+use Rattle.taskfile.specs.PartsInPlace.{actionsIn, Stood}
 use Rattle.compile.specs.InPlaceLaws.{stepsLeft, left-start, left-none}
 use Rattle.compile.specs.ExtentLaws.{Counted, counted-start, counted-action, counted-end}
 use borrow.Author.Needs.{needs}

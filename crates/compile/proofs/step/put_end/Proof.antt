@@ -9,7 +9,8 @@ use Rattle.facts.specs.PartialLaws.{length-written}
 use Rattle.facts.specs.WriteLaws.{wrote-inside, wrote-room, wrote-then}
 use Rattle.compilation.specs.Extend.{extend}
 use Rattle.compilation.specs.CompiledLengthLaws.{step-written}
-use Rattle.compile.specs.InPlace.{endIn, Stands}
+use Rattle.taskfile.specs.PartsInPlace.{Stands}
+use Rattle.compile.specs.InPlace.{endIn}
 use Rattle.facts.specs.InPlaceLaws.{past-is}
 use Rattle.compile.specs.PutLaws.{wrote-end}
 use borrow.Author.Needs.{needs}

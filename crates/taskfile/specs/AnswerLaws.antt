@@ -1,0 +1,130 @@
+-- Laws of what the operations answer on an accepted file, by its index.
+use mathlib.Core.Path.{_≡_, refl, sym, ap, _∙_}
+use mathlib.Core.Option.{none}
+use Prim.Native.Nat.{ℕ, zero, suc, _+_, _*_, _≤_, _<_}
+use native.Mathlib.Omega.{arith}
+use mathlib.Core.List.{List, [], _∷_}
+use lib.ListN.{length, getD, take, drop, getElem?}
+use lib.Seq.{length-take-le}
+use Rattle.facts.specs.Read.{Read, accepted, refused, _>>=_}
+use Rattle.facts.specs.ReadLaws.{made, not-made}
+use Rattle.facts.specs.Lists.{At}
+use Rattle.facts.specs.ListLaws.{at-getD, look}
+use Rattle.facts.specs.Partial.{partialAt}
+use Rattle.facts.specs.State.{checkState}
+use Rattle.facts.specs.StateLaws.{state-inside}
+use Rattle.facts.specs.Run.{atMost}
+use Rattle.facts.specs.PartialReadLaws.{partial-read}
+use Rattle.facts.specs.HeadLaws.{head-read}
+use Rattle.taskfile.specs.declared.Task.{Task as Index}
+use Rattle.taskfile.specs.Task.{Action, Task, Walk, maxList}
+use Rattle.taskfile.specs.TaskFile.{readTask, checkTask, actionOf, costTask, runTask}
+use Rattle.taskfile.specs.TaskReadLaws.{task-read, task-limits}
+use Rattle.taskfile.specs.WalkInPlace.{walkAt, moveAt, runList}
+use Rattle.taskfile.specs.WalkInPlaceLaws.{walk-in-place}
+use Rattle.taskfile.specs.MoveInPlaceLaws.{located-actions, sum-in-place}
+use Rattle.taskfile.specs.InPlace.{taskAt}
+use Rattle.taskfile.specs.Index.{Ready}
+
+look-none : {A : Type 0} (xs : List A) (k : ℕ) → length xs ≤ k → getElem? xs k ≡ none
+look-none [] k l = refl
+look-none (x ∷ xs) zero l = absurd (omega arith)
+look-none (x ∷ xs) (suc k) l = look-none xs k (omega arith)
+
+-- what the file's refusal does to the operations
+pub cost-refused : (f : List ℕ) (a : ℕ) (s : List ℕ) {n p : ℕ} → checkTask f ≡ refused n p → costTask f a s ≡ refused n p
+unfolding checkTask costTask
+cost-refused f a s h = rw (not-made (λ (t : Task). tt) (readTask f) h)
+
+pub run-refused : (f list : List ℕ) {n p : ℕ} → checkTask f ≡ refused n p → runTask f list ≡ refused n p
+unfolding checkTask runTask
+run-refused f list h = rw (not-made (λ (t : Task). tt) (readTask f) h)
+
+module _ (f : List ℕ) {i : Index} (ready : Ready f i) where
+  -- the task that is there
+  pub record There : Type 0 where
+    pub task : Task
+    pub reads : readTask f ≡ accepted task
+    pub variables : length (task .sizes) ≡ i .variables
+    pub actions : length (task .actions) ≡ i .actions
+
+  pub there : There
+  unfolding taskAt
+  there =
+      let m = made (λ (t : Task). (length (t .sizes), length (t .actions))) (readTask f) (ready .counts) in
+      record { task = m .from; reads = m .answer; variables = ap (λ (p : ℕ × ℕ). p .0) (m .value); actions = ap (λ (p : ℕ × ℕ). p .1) (m .value) }
+
+  abbrev t : Task
+  t = there .task
+
+  -- what the file's head says, and where its initial values and its goal stand
+  pub record Starts : Type 0 where
+    pub variables : i .variables ≤ 24
+    pub actions : i .actions ≤ 32
+    pub fits : 1 + 2 * i .variables ≤ length f
+    pub sizes : take (i .variables) (drop 1 f) ≡ t .sizes
+    pub init : take (i .variables) (drop (1 + i .variables) f) ≡ t .init
+    pub goal : partialAt f (1 + 2 * i .variables) ≡ t .goal
+
+  pub starts : Starts
+  starts =
+      let l = task-read f (there .reads) in
+      let r = head-read f 24 8 (l .head-is) in
+      let g = partial-read f (t .sizes) (1 + 2 * length (t .sizes)) (r .goal) in
+      let n = there .variables in
+      record {
+        variables = omega (arith, r .wf .variables, n);
+        actions = omega (arith, task-limits f (there .reads) .actions, there .actions);
+        fits = omega (arith, g .next, g .fits, n);
+        sizes = ap (λ (k : ℕ). take k (drop 1 f)) (sym n) ∙ sym (r .sizes);
+        init = ap (λ (k : ℕ). take k (drop (1 + k) f)) (sym n) ∙ sym (r .init);
+        goal = ap (λ (k : ℕ). partialAt f (1 + 2 * k)) (sym n) ∙ sym (g .same);
+      }
+
+  -- one start for each action
+  pub starts-count : length (take (i .actions) (i .starts)) ≡ length (t .actions)
+  starts-count = length-take-le (i .actions) (i .starts) (omega (arith, ready .starts-long, starts .actions)) ∙ sym (there .actions)
+
+  -- ---- costs
+
+  module _ (a : ℕ) (s : List ℕ) where
+    pub cost-missing : i .actions ≤ a → costTask f a s ≡ refused 11 0
+    unfolding costTask actionOf
+    cost-missing l = rw (there .reads, look-none (t .actions) a (omega (arith, there .actions)), actionOf)
+
+    module _ (l : a < i .actions) where
+      abbrev none-such : Action
+      none-such = record { pre = record { map = 0; values = [] }; eff = record { map = 0; values = [] }; incoming = 0; nodes = [] }
+
+      abbrev x : Action
+      x = getD (t .actions) a none-such
+
+      x-there : At (t .actions) a x
+      x-there = at-getD (t .actions) a none-such (omega (arith, there .actions))
+
+      x-is : actionOf (t .actions) a ≡ accepted x
+      unfolding actionOf
+      x-is = rw (look x-there, actionOf)
+
+      pub cost-state : {n p k : ℕ} → k ≡ i .variables → checkState (take k (drop 1 f)) s ≡ refused n p → costTask f a s ≡ refused n p
+      unfolding costTask
+      cost-state {n} {p} {k} e h =
+          let same : take k (drop 1 f) ≡ t .sizes = ap (λ (j : ℕ). take j (drop 1 f)) e ∙ starts .sizes in
+          rw (there .reads, x-is, ap (λ (ds : List ℕ). checkState ds s) (sym same) ∙ h)
+
+      pub cost-is : {k : ℕ} {u : Unit {0}} → k ≡ i .variables → checkState (take k (drop 1 f)) s ≡ accepted u → costTask f a s ≡ accepted (walkAt f (getD (i .starts) a 0) (drop (getD (i .firsts) a 0) (i .nodes)) s .cost)
+      unfolding costTask
+      cost-is {k} e h =
+          let same : take k (drop 1 f) ≡ t .sizes = ap (λ (j : ℕ). take j (drop 1 f)) e ∙ starts .sizes in
+          let ok : checkState (t .sizes) s ≡ accepted _ = ap (λ (ds : List ℕ). checkState ds s) (sym same) ∙ h in
+          rw (there .reads, x-is, ok) (ap (λ (w : Walk). accepted (w .cost)) (sym (walk-in-place f (ready .located .lies t (there .reads) a x x-there) s (state-inside (t .sizes) s ok))))
+
+  -- ---- runs
+
+  pub run-is : (list : List ℕ)
+      → runTask f list
+      ≡ runList (length (take (i .actions) (i .starts))) (moveAt f (take (i .actions) (i .starts)) (i .firsts) (i .nodes)) (partialAt f (1 + 2 * i .variables)) list (take (i .variables) (drop (1 + i .variables) f))
+  unfolding runTask runList
+  run-is list =
+      rw (there .reads)
+      (ap (λ (sum : Read ℕ). _>>=_ (atMost maxList list) (λ u. sum)) (sym (sum-in-place f (there .reads) (located-actions f (there .reads) (ready .located) (i .actions) (omega (arith, there .actions))) starts-count (1 + 2 * i .variables) list (take (i .variables) (drop (1 + i .variables) f)) (starts .init) (starts .goal))))

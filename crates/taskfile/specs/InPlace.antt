@@ -1,0 +1,88 @@
+-- Diagrams in place: what code does that goes over the bytes of a file, without reading it into values, and what the index of a file holds.
+use mathlib.Core.Path.{_≡_}
+use Prim.Native.Nat.{ℕ, zero, suc, _+_, _-_, _<_}
+use mathlib.Core.Bool.{true, false}
+use mathlib.Core.List.{List}
+use lib.Dec.{leb, ltb}
+use lib.ListN.{length, getD}
+use Rattle.facts.specs.Read.{Read, accepted, check, withValue, _>>=_}
+use Rattle.facts.specs.Lists.{upFrom, At}
+use Rattle.facts.specs.Fields.{each, nextOf}
+use Rattle.taskfile.specs.Task.{Node, Action, Task, maxNodes}
+use Rattle.taskfile.specs.TaskFile.{edgeBytes, readNode, readNodes, readDiagram, readAction, readActions, readTask}
+
+-- ---- the variables along the edges, of a diagram with m nodes that begin at these offsets
+
+module _ (f sizes : List ℕ) (m : ℕ) (offsets : List ℕ) where
+  -- the variable of node k, and for the terminal the number of variables
+  unfoldable pub levelAt : ℕ → ℕ
+  levelAt k = elim (leb k m) [ true ↦ getD f (getD offsets (k - 1) 0) 0 | false ↦ length sizes ]
+
+  -- each of the `count` targets from an offset on has a variable above v, else 6 at the target's byte
+  unfoldable pub targetsRise : ℕ → ℕ → ℕ → Read (Unit {0})
+  targetsRise v zero at = accepted tt
+  targetsRise v (suc count) at = do
+    _ ← check (ltb v (levelAt (getD f at 0))) 6 at
+    targetsRise v count (at + edgeBytes)
+
+  -- the same for the edges of each of `count` nodes, the first of which has the index j
+  unfoldable pub nodesRise : ℕ → ℕ → Read (Unit {0})
+  nodesRise j zero = accepted tt
+  nodesRise j (suc count) = do
+    _ ← targetsRise (getD f (getD offsets j 0) 0) (getD sizes (getD f (getD offsets j 0) 0) 0) (getD offsets j 0 + 1)
+    nodesRise (suc j) count
+
+-- ---- what the index holds
+
+-- the first j nodes of a diagram that has m
+unfoldable pub readFirst : List ℕ → List ℕ → ℕ → ℕ → ℕ → Read (List Node × ℕ)
+readFirst f sizes m j at = each (readNode f sizes m) (upFrom 1 j) at
+
+-- `offsets` has, where each of the m nodes from an offset on is accepted, the offset of each
+pub record Marked (f sizes : List ℕ) (m from : ℕ) (offsets : List ℕ) : Type 0 where
+  pub marks : {end : ℕ} → nextOf (readNodes f sizes m from) ≡ accepted end → (j : ℕ) → j < m → nextOf (readFirst f sizes m j from) ≡ accepted (getD offsets j 0)
+
+-- the offset past a diagram with at most `left` nodes, and how many it has
+unfoldable pub diagramAt : List ℕ → List ℕ → ℕ → ℕ → Read (ℕ × ℕ)
+diagramAt f sizes left at = withValue (λ p. (p .1, length (p .0))) (readDiagram f sizes left at)
+
+-- The list of node offsets, which was `before` and is `after`: the nodes of the diagram at an offset, if it is accepted, are noted from index `used` on,
+-- and what was noted before is kept.
+pub record Placed (f sizes : List ℕ) (left at used : ℕ) (before after : List ℕ) : Type 0 where
+  pub kept : (j : ℕ) → j < used → getD after j 0 ≡ getD before j 0
+  pub lies : (nodes : List Node) (end : ℕ) → readDiagram f sizes left at ≡ accepted (nodes, end) → (j : ℕ) (nd : Node) → At nodes j nd
+      → (next : ℕ) × (readNode f sizes (length nodes) (suc j) (getD after (used + j) 0) ≡ accepted (nd, next))
+
+-- ---- actions
+
+-- the offset past an action with at most `left` nodes, and how many it has
+unfoldable pub actionAt : List ℕ → List ℕ → ℕ → ℕ → Read (ℕ × ℕ)
+actionAt f sizes left at = withValue (λ p. (p .1, length (p .0 .nodes))) (readAction f sizes left at)
+
+-- The list of node offsets, which was `before` and is `after`: the same as for a diagram, for the action at an offset.
+pub record Action-placed (f sizes : List ℕ) (left at used : ℕ) (before after : List ℕ) : Type 0 where
+  pub kept : (j : ℕ) → j < used → getD after j 0 ≡ getD before j 0
+  pub lies : (x : Action) (end : ℕ) → readAction f sizes left at ≡ accepted (x, end) → (j : ℕ) (nd : Node) → At (x .nodes) j nd
+      → (next : ℕ) × (readNode f sizes (length (x .nodes)) (suc j) (getD after (used + j) 0) ≡ accepted (nd, next))
+
+-- the action x is read at an offset, and its nodes at the offsets from index `first` on
+pub record Lies (f sizes : List ℕ) (x : Action) (at first : ℕ) (nodes : List ℕ) : Type 0 where
+  pub left : ℕ
+  pub next : ℕ
+  pub action : readAction f sizes left at ≡ accepted (x, next)
+  pub node : (j : ℕ) (nd : Node) → At (x .nodes) j nd → (end : ℕ) × (readNode f sizes (length (x .nodes)) (suc j) (getD nodes (first + j) 0) ≡ accepted (nd, end))
+
+-- the same for each of the `count` actions from an offset on, where all are accepted
+pub record Listed (f sizes : List ℕ) (count from : ℕ) (actions firsts nodes : List ℕ) : Type 0 where
+  pub lies : (xs : List Action) (end : ℕ) → readActions f sizes count maxNodes from ≡ accepted (xs, end) → (a : ℕ) (x : Action) → At xs a x
+      → Lies f sizes x (getD actions a 0) (getD firsts a 0) nodes
+
+-- ---- a whole file
+
+-- how many variables and how many actions the file has
+unfoldable pub taskAt : List ℕ → Read (ℕ × ℕ)
+taskAt f = withValue (λ t. (length (t .sizes), length (t .actions))) (readTask f)
+
+-- the offset of each action of an accepted file, the number of its first node among all nodes, and the offset of each node
+pub record Located (f actions firsts nodes : List ℕ) : Type 0 where
+  pub lies : (t : Task) → readTask f ≡ accepted t → (a : ℕ) (x : Action) → At (t .actions) a x → Lies f (t .sizes) x (getD actions a 0) (getD firsts a 0) nodes

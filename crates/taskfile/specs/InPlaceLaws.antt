@@ -1,0 +1,366 @@
+-- Laws of going over the bytes of a diagram: the ways in which reading can go, and that the checks in place are the checks of what was read.
+use mathlib.Core.Path.{_≡_, refl, sym, ap, ap₂, _∙_, subst}
+use Prim.Native.Nat.{ℕ, zero, suc, _+_, _-_, _≤_, _<_}
+use native.Mathlib.Nat.{lt-of-not-le}
+use native.Mathlib.Decide.{decLe}
+use native.Mathlib.Numerals.{add-one}
+use native.Mathlib.Omega.{arith}
+use mathlib.Core.Bool.{Bool, true, _&&_}
+use mathlib.Core.List.{List, [], _∷_, _++_, map, append-nil}
+use lib.Dec.{leb, ltb}
+use lib.ListN.{length, getD, take, drop, length-append, length-drop, drop-of-length-le, List·getD-append}
+use lib.Seq.{getD-take, getD-drop, take-all, drop-at, length-take-le}
+use borrow.Rule.Slice.PartMut.{putMid}
+use borrow.Author.Tests.{le-leb, lt-leb, le-ltb, lt-ltb}
+use Rattle.facts.specs.Read.{Read, accepted, refused, check, withValue, _>>=_}
+use Rattle.facts.specs.ReadLaws.{not-refused, through, made, not-made, value-of}
+use Rattle.facts.specs.Lists.{upFrom, At, here, there}
+use Rattle.facts.specs.ListLaws.{length-upFrom, at-length, at-getD}
+use Rattle.facts.specs.BytesLaws.{number-one}
+use Rattle.facts.specs.Fields.{each, nextOf, valueOf, readNumber, readCount, readWeight}
+use Rattle.facts.specs.EachLaws.{next-snoc, each-on, each-stops, each-at, each-length}
+use Rattle.facts.specs.FieldLaws.{Counted, byte-ends, byte-wrong, byte-good, field-refused, field-good, count-read}
+use Rattle.taskfile.specs.Task.{Edge, Node, level}
+use Rattle.taskfile.specs.TaskFile.{edgeBytes, nodeBytes, checkTargets, checkRising, readVariable, readTarget, readEdge, readEdges, readNode, readNodes, readDiagram}
+use Rattle.taskfile.specs.InPlace.{levelAt, targetsRise, nodesRise, readFirst, Marked, diagramAt, Placed}
+use Rattle.taskfile.specs.DiagramReadLaws.{edge-read, node-read, diagram-read}
+
+module _ (f : List ℕ) where
+  -- ---- the ways in which a target can go
+
+  module _ (m i at : ℕ) where
+    abbrev Ahead : ℕ → Bool
+    Ahead t = ltb i t && leb t (suc m)
+
+    pub target-ends : length f ≤ at → readTarget f m i at ≡ refused 1 at
+    unfolding readTarget
+    target-ends h = byte-ends f Ahead 6 at h
+
+    pub target-behind : at < length f → getD f at 0 ≤ i → readTarget f m i at ≡ refused 6 at
+    unfolding readTarget
+    target-behind h g = byte-wrong f Ahead 6 at h (rw (le-ltb i (getD f at 0) g))
+
+    pub target-beyond : at < length f → i < getD f at 0 → suc m < getD f at 0 → readTarget f m i at ≡ refused 6 at
+    unfolding readTarget
+    target-beyond h g l = byte-wrong f Ahead 6 at h (rw (lt-ltb i (getD f at 0) g, lt-leb (getD f at 0) (suc m) l))
+
+    pub target-good : at < length f → i < getD f at 0 → getD f at 0 ≤ suc m → readTarget f m i at ≡ accepted (getD f at 0, at + 1)
+    unfolding readTarget
+    target-good h g l = byte-good f Ahead 6 at h (rw (lt-ltb i (getD f at 0) g, le-leb (getD f at 0) (suc m) l))
+
+    -- ---- the ways in which an edge can go, past it
+
+    pub edge-no-target : {n p : ℕ} → nextOf (readTarget f m i at) ≡ refused n p → nextOf (readEdge f m i at) ≡ refused n p
+    unfolding readEdge
+    edge-no-target h = rw (not-made (λ (p : ℕ × ℕ). p .1) (readTarget f m i at) h)
+
+    module _ {weight : ℕ} (h : nextOf (readTarget f m i at) ≡ accepted weight) where
+      abbrev target : ℕ
+      target = made (λ (p : ℕ × ℕ). p .1) (readTarget f m i at) h .from .0
+
+      target-is : readTarget f m i at ≡ accepted (target, weight)
+      target-is = let t = made (λ (p : ℕ × ℕ). p .1) (readTarget f m i at) h in t .answer ∙ ap (λ (e : ℕ). accepted (target, e)) (t .value)
+
+      pub edge-no-weight : {n p : ℕ} → readNumber f 2 weight ≡ refused n p → nextOf (readEdge f m i at) ≡ refused n p
+      unfolding readEdge readWeight
+      edge-no-weight e = rw (target-is, field-refused f 2 (λ w. true) 3 weight e)
+
+      pub edge-good : {n : ℕ} → readNumber f 2 weight ≡ accepted n → nextOf (readEdge f m i at) ≡ accepted (weight + 2)
+      unfolding readEdge readWeight
+      edge-good e = rw (target-is, field-good f 2 (λ w. true) 3 weight e refl)
+
+  -- ---- the ways in which a node can go, past it
+
+  module _ (sizes : List ℕ) (m i at : ℕ) where
+    pub node-ends : length f ≤ at → nextOf (readNode f sizes m i at) ≡ refused 1 at
+    unfolding readNode readVariable
+    node-ends h = rw (byte-ends f (λ v. ltb v (length sizes)) 6 at h)
+
+    pub node-no-variable : at < length f → length sizes ≤ getD f at 0 → nextOf (readNode f sizes m i at) ≡ refused 6 at
+    unfolding readNode readVariable
+    node-no-variable h l = rw (byte-wrong f (λ v. ltb v (length sizes)) 6 at h (le-ltb (getD f at 0) (length sizes) l))
+
+    pub node-edges : at < length f → getD f at 0 < length sizes → nextOf (readNode f sizes m i at) ≡ nextOf (readEdges f m i (getD sizes (getD f at 0) 0) (at + 1))
+    unfolding readNode readVariable
+    node-edges h l = rw (byte-good f (λ v. ltb v (length sizes)) 6 at h (lt-ltb (getD f at 0) (length sizes) l)) (last (readEdges f m i (getD sizes (getD f at 0) 0) (at + 1)))
+      where
+        last : (r : Read (List Edge × ℕ)) → nextOf {X = Node} (_>>=_ r (λ (p : List Edge × ℕ). accepted (record { var = getD f at 0; edges = p .0 }, p .1))) ≡ nextOf r
+        last (accepted p) = refl
+        last (refused n p) = refl
+
+-- ---- the ways in which the checks in place can go
+
+module _ (f sizes : List ℕ) (m : ℕ) (offsets : List ℕ) where
+  pub level-terminal : (k : ℕ) → m < k → levelAt f sizes m offsets k ≡ length sizes
+  unfolding levelAt
+  level-terminal k l = rw (lt-leb k m l, levelAt)
+
+  pub level-node : (k : ℕ) → k ≤ m → levelAt f sizes m offsets k ≡ getD f (getD offsets (k - 1) 0) 0
+  unfolding levelAt
+  level-node k l = rw (le-leb k m l, levelAt)
+
+  module _ (v at : ℕ) where
+    pub targets-fall : (left : ℕ) → 0 < left → levelAt f sizes m offsets (getD f at 0) ≤ v → targetsRise f sizes m offsets v left at ≡ refused 6 at
+    unfolding targetsRise
+    targets-fall zero l h = absurd (omega arith)
+    targets-fall (suc left) l h = rw (le-ltb v (levelAt f sizes m offsets (getD f at 0)) h)
+
+    pub targets-on : (left : ℕ) → 0 < left → v < levelAt f sizes m offsets (getD f at 0)
+        → targetsRise f sizes m offsets v left at ≡ targetsRise f sizes m offsets v (left - 1) (at + edgeBytes)
+    unfolding targetsRise
+    targets-on zero l h = absurd (omega arith)
+    targets-on (suc left) l h =
+        let e : left ≡ suc left - 1 = omega arith in
+        rw (lt-ltb v (levelAt f sizes m offsets (getD f at 0)) h) (ap (λ (k : ℕ). targetsRise f sizes m offsets v k (at + edgeBytes)) e)
+
+    pub targets-done : (left : ℕ) → left ≤ 0 → targetsRise f sizes m offsets v left at ≡ accepted tt
+    unfolding targetsRise
+    targets-done zero l = refl
+    targets-done (suc left) l = absurd (omega arith)
+
+  -- the targets of the node that has the index j
+  abbrev pub NodeRises : ℕ → Read (Unit {0})
+  NodeRises j = targetsRise f sizes m offsets (getD f (getD offsets j 0) 0) (getD sizes (getD f (getD offsets j 0) 0) 0) (getD offsets j 0 + 1)
+
+  pub node-rises : (j : ℕ) {at v count : ℕ} → at ≡ getD offsets j 0 → v ≡ getD f at 0 → count ≡ getD sizes v 0 → NodeRises j ≡ targetsRise f sizes m offsets v count (at + 1)
+  node-rises j a b c = rw (c, b, a)
+
+  module _ (j : ℕ) where
+    pub nodes-fall : (left : ℕ) {n p : ℕ} → 0 < left → NodeRises j ≡ refused n p → nodesRise f sizes m offsets j left ≡ refused n p
+    unfolding nodesRise
+    nodes-fall zero l h = absurd (omega arith)
+    nodes-fall (suc left) l h = rw h
+
+    pub nodes-on : (left : ℕ) → 0 < left → NodeRises j ≡ accepted tt → nodesRise f sizes m offsets j left ≡ nodesRise f sizes m offsets (j + 1) (left - 1)
+    unfolding nodesRise
+    nodes-on zero l h = absurd (omega arith)
+    nodes-on (suc left) l h =
+        let e : left ≡ suc left - 1 = omega arith in
+        rw (h, add-one j) (ap (nodesRise f sizes m offsets (suc j)) e)
+
+    pub nodes-done : (left : ℕ) → left ≤ 0 → nodesRise f sizes m offsets j left ≡ accepted tt
+    unfolding nodesRise
+    nodes-done zero l = refl
+    nodes-done (suc left) l = absurd (omega arith)
+
+-- ---- marking the nodes
+
+getD-upFrom : (k n j d : ℕ) → j < n → getD (upFrom k n) j d ≡ k + j
+getD-upFrom k zero j d l = absurd (omega arith)
+getD-upFrom k (suc n) zero d l = omega arith
+getD-upFrom k (suc n) (suc j) d l = getD-upFrom (suc k) n j d (omega arith) ∙ omega arith
+
+-- what is left of the items, at the item number j
+module _ (f sizes : List ℕ) (m j at : ℕ) (l : j < m) where
+  item : {r : Read ℕ} → nextOf (readNode f sizes m (1 + j) at) ≡ r → nextOf (readNode f sizes m (getD (upFrom 1 m) j 0) at) ≡ r
+  item h = ap (λ (i : ℕ). nextOf (readNode f sizes m i at)) (getD-upFrom 1 m j 0 l) ∙ h
+
+  in-list : j < length (upFrom 1 m)
+  in-list = omega (arith, length-upFrom 1 m)
+
+  pub left-on : {q : ℕ} → nextOf (readNode f sizes m (1 + j) at) ≡ accepted q
+      → nextOf (each (readNode f sizes m) (drop j (upFrom 1 m)) at) ≡ nextOf (each (readNode f sizes m) (drop (j + 1) (upFrom 1 m)) q)
+  left-on h = each-on (readNode f sizes m) (upFrom 1 m) 0 j at in-list (item h)
+
+  pub left-stops : {n p : ℕ} → nextOf (readNode f sizes m (1 + j) at) ≡ refused n p → nextOf (each (readNode f sizes m) (drop j (upFrom 1 m)) at) ≡ refused n p
+  left-stops h = each-stops (readNode f sizes m) (upFrom 1 m) 0 j at in-list (item h)
+
+first-next : (f sizes : List ℕ) (m from j : ℕ) {at q : ℕ} → nextOf (readFirst f sizes m j from) ≡ accepted at → nextOf (readNode f sizes m (suc j) at) ≡ accepted q
+    → nextOf (readFirst f sizes m (suc j) from) ≡ accepted q
+unfolding readFirst
+first-next f sizes m from j {at} {q} h g = next-snoc (readNode f sizes m) 1 j from h (subst (λ (i : ℕ). nextOf (readNode f sizes m i at) ≡ accepted q) (omega arith) g)
+
+pub first-more : (f sizes : List ℕ) (m from j : ℕ) {at q : ℕ} → nextOf (readFirst f sizes m j from) ≡ accepted at → nextOf (readNode f sizes m (1 + j) at) ≡ accepted q
+    → nextOf (readFirst f sizes m (j + 1) from) ≡ accepted q
+unfolding readFirst
+first-more f sizes m from j h g = rw (add-one j) (next-snoc (readNode f sizes m) 1 j from h g)
+
+-- where a node is refused there is nothing to mark
+pub marked-none : (f sizes : List ℕ) (m from : ℕ) (offsets : List ℕ) {n p : ℕ} → nextOf (readNodes f sizes m from) ≡ refused n p → Marked f sizes m from offsets
+marked-none f sizes m from offsets h = record { marks = λ e j l. absurd (not-refused (sym h ∙ e)) }
+
+-- ---- the checks in place are the checks of what was read
+
+abbrev varOf : Node → ℕ
+varOf nd = nd .var
+
+var-at : (d : ℕ) {nodes : List Node} {j : ℕ} {nd : Node} → At nodes j nd → getD (map varOf nodes) j d ≡ nd .var
+var-at d here = refl
+var-at d (there a) = var-at d a
+
+var-past : (d : ℕ) (nodes : List Node) (j : ℕ) → length nodes ≤ j → getD (map varOf nodes) j d ≡ d
+var-past d [] j l = refl
+var-past d (nd ∷ nodes) zero l = absurd (omega arith)
+var-past d (nd ∷ nodes) (suc j) l = var-past d nodes j (omega arith)
+
+nodes-length : (f sizes : List ℕ) (m from : ℕ) {nodes : List Node} {end : ℕ} → readNodes f sizes m from ≡ accepted (nodes, end) → m ≡ length nodes
+unfolding readNodes
+nodes-length f sizes m from h = sym (length-upFrom 1 m) ∙ each-length (readNode f sizes m) (upFrom 1 m) from h
+
+module _ (f sizes : List ℕ) (m from : ℕ) {nodes : List Node} {end : ℕ} (h : readNodes f sizes m from ≡ accepted (nodes, end)) {offsets : List ℕ} (k : Marked f sizes m from offsets) where
+  -- each node lies where it is noted
+  pub node-noted : {j : ℕ} {nd : Node} → At nodes j nd → (next : ℕ) × (readNode f sizes m (suc j) (getD offsets j 0) ≡ accepted (nd, next))
+  unfolding readNodes readFirst
+  node-noted {j} {nd} a =
+      let r = each-at (readNode f sizes m) 1 m from h a (k .marks (ap nextOf h) j (omega (arith, at-length a, nodes-length f sizes m from h))) in
+      (r .0, subst (λ (i : ℕ). readNode f sizes m i (getD offsets j 0) ≡ accepted (nd, r .0)) (omega arith) (r .1))
+
+  pub noted-inside : (j : ℕ) → j < m → getD offsets j 0 < length f
+  noted-inside j l =
+      let none : Node = record { var = 0; edges = [] } in
+      let r = node-noted (at-getD nodes j none (omega (arith, nodes-length f sizes m from h))) in
+      omega (arith, node-read f sizes m (suc j) (getD offsets j 0) (r .1) .var .fits)
+
+  var-noted : {j : ℕ} {nd : Node} → At nodes j nd → getD f (getD offsets j 0) 0 ≡ nd .var
+  var-noted {j} a =
+      let r = node-noted a in
+      let v = node-read f sizes m (suc j) (getD offsets j 0) (r .1) .var in
+      sym (number-one f (getD offsets j 0) (omega (arith, v .fits))) ∙ v .value
+
+  level-same : (t : ℕ) → 0 < t → level sizes nodes t ≡ levelAt f sizes m offsets t
+  level-same t l = elim (decLe t m) [
+    | yes g ↦
+        let none : Node = record { var = 0; edges = [] } in
+        let a = at-getD nodes (t - 1) none (omega (arith, nodes-length f sizes m from h)) in
+        var-at (length sizes) a ∙ sym (var-noted a) ∙ sym (level-node f sizes m offsets t g)
+    | no g ↦ var-past (length sizes) nodes (t - 1) (omega (arith, nodes-length f sizes m from h, lt-of-not-le g)) ∙ sym (level-terminal f sizes m offsets t (lt-of-not-le g))
+  ]
+
+  targets-same : (v i x d at : ℕ) {edges : List Edge} {e : ℕ} → each (λ (x : ℕ). readEdge f m i) (upFrom x d) at ≡ accepted (edges, e)
+      → checkTargets sizes nodes v edges at ≡ targetsRise f sizes m offsets v d at
+  unfolding targetsRise
+  targets-same v i x zero at g = ap (λ (es : List Edge). checkTargets sizes nodes v es at) (sym (value-of g))
+  targets-same v i x (suc d) at g =
+      let o = through (readEdge f m i at) g in
+      let p = through (each (λ (x : ℕ). readEdge f m i) (upFrom (suc x) d) (o .got .1)) (o .then) in
+      let e = edge-read f m i at (o .first) in
+      let t = o .got .0 .target in
+      let byte : t ≡ getD f at 0 = sym (e .target) ∙ number-one f at (omega (arith, e .fits, e .next)) in
+      let same : level sizes nodes t ≡ levelAt f sizes m offsets (getD f at 0) = level-same t (omega (arith, e .above)) ∙ ap (levelAt f sizes m offsets) byte in
+      let rest : checkTargets sizes nodes v (p .got .0) (at + edgeBytes) ≡ targetsRise f sizes m offsets v d (at + edgeBytes)
+      = subst (λ (q : ℕ). checkTargets sizes nodes v (p .got .0) q ≡ targetsRise f sizes m offsets v d q) (e .next) (targets-same v i (suc x) d (o .got .1) (p .first)) in
+      ap (λ (es : List Edge). checkTargets sizes nodes v es at) (sym (value-of (p .then)))
+      ∙ ap₂ (λ (b : ℕ) (r : Read (Unit {0})). _>>=_ (check (ltb v b) 6 at) (λ u. r)) same rest
+
+  nodes-same : (count j at : ℕ) {left : List Node} {e : ℕ} → j + count ≡ m → nextOf (readFirst f sizes m j from) ≡ accepted at
+      → each (readNode f sizes m) (upFrom (suc j) count) at ≡ accepted (left, e) → checkRising sizes nodes left at ≡ nodesRise f sizes m offsets j count
+  unfolding nodesRise readEdges
+  nodes-same zero j at l q g = ap (λ (left : List Node). checkRising sizes nodes left at) (sym (value-of g))
+  nodes-same (suc count) j at l q g =
+      let o = through (readNode f sizes m (suc j) at) g in
+      let p = through (each (readNode f sizes m) (upFrom (suc (suc j)) count) (o .got .1)) (o .then) in
+      let n = node-read f sizes m (suc j) at (o .first) in
+      let nd = o .got .0 in
+      let noted : nextOf (readFirst f sizes m j from) ≡ accepted (getD offsets j 0) = k .marks (ap nextOf h) j (omega arith) in
+      let here : at ≡ getD offsets j 0 = cc in
+      let byte : nd .var ≡ getD f at 0 = sym (n .var .value) ∙ number-one f at (omega (arith, n .var .fits)) in
+      let same : checkTargets sizes nodes (nd .var) (nd .edges) (at + 1) ≡ NodeRises f sizes m offsets j
+      = targets-same (nd .var) (suc j) 0 (getD sizes (nd .var) 0) (at + 1) (n .edges) ∙ sym (node-rises f sizes m offsets j here byte refl) in
+      let rest : checkRising sizes nodes (p .got .0) (at + nodeBytes nd) ≡ nodesRise f sizes m offsets (suc j) count
+      = subst (λ (q : ℕ). checkRising sizes nodes (p .got .0) q ≡ nodesRise f sizes m offsets (suc j) count) (n .next)
+      (nodes-same count (suc j) (o .got .1) (omega arith) (first-next f sizes m from j q (ap nextOf (o .first))) (p .first)) in
+      ap (λ (left : List Node). checkRising sizes nodes left at) (sym (value-of (p .then)))
+      ∙ ap₂ (λ (a b : Read (Unit {0})). _>>=_ a (λ u. b)) same rest
+
+  pub rising-same : checkRising sizes nodes nodes from ≡ nodesRise f sizes m offsets 0 m
+  unfolding readNodes readFirst
+  rising-same = nodes-same m 0 from (omega arith) refl h
+
+-- ---- the rest of a list is lent from index `used` on, and comes back as `last`
+
+pub record Back (used : ℕ) (before last after : List ℕ) : Type 0 where
+  pub kept : (j : ℕ) → j < used → getD after j 0 ≡ getD before j 0
+  pub rest : drop used after ≡ last
+  pub part : take (length after - used) (drop used after) ≡ last
+
+pub back : (used : ℕ) (before last : List ℕ) → used ≤ length before → Back used before last (putMid used (length before - used) before last)
+back used before last l =
+    let all : drop (length before - used) (drop used before) ≡ [] = drop-of-length-le (drop used before) {i = length before - used} (simp length-drop (omega arith)) in
+    let whole : take used before ++ last ≡ putMid used (length before - used) before last
+    = ap (λ (xs : List ℕ). take used before ++ xs) (sym (append-nil last)) ∙ ap (λ (xs : List ℕ). take used before ++ (last ++ xs)) (sym all) in
+    subst (Back used before last) whole joined
+  where
+    front : length (take used before) ≡ used
+    front = length-take-le used before l
+
+    end : drop used (take used before ++ last) ≡ last
+    end = drop-at (take used before) last used front
+
+    joined : Back used before last (take used before ++ last)
+    joined = record {
+      kept = λ j g. List·getD-append (take used before) last 0 j (omega (arith, front)) ∙ getD-take used before j 0 g;
+      rest = end;
+      part = ap (take (length (take used before ++ last) - used)) end ∙ take-all (length (take used before ++ last) - used) last (omega (arith, length-append (take used before) last, front));
+    }
+
+-- ---- the ways in which a diagram can go, past it
+
+module _ (f sizes : List ℕ) (left at : ℕ) where
+  pub drawn-no-count : {n p : ℕ} → valueOf (readCount f 0 left at) ≡ refused n p → diagramAt f sizes left at ≡ refused n p
+  unfolding diagramAt readDiagram
+  drawn-no-count h = rw (not-made (λ (p : ℕ × ℕ). p .0) (readCount f 0 left at) h)
+
+  -- where a diagram is refused there is nothing to place
+  pub placed-none : {used n p : ℕ} {before after : List ℕ} → diagramAt f sizes left at ≡ refused n p → ((j : ℕ) → j < used → getD after j 0 ≡ getD before j 0)
+      → Placed f sizes left at used before after
+  unfolding diagramAt
+  placed-none h g = record { kept = g; lies = λ nodes end r j nd a. absurd (not-refused (sym h ∙ ap (withValue (λ (p : List Node × ℕ). (p .1, length (p .0)))) r)) }
+
+  module _ {m : ℕ} (h : valueOf (readCount f 0 left at) ≡ accepted m) where
+    counted : Counted f 0 left at m (at + 1)
+    counted =
+        let c = made (λ (p : ℕ × ℕ). p .0) (readCount f 0 left at) h in
+        let r = count-read f 0 left at (c .answer) in
+        subst (λ (n : ℕ). Counted f 0 left at n (at + 1)) (c .value) (record { least = r .least; most = r .most; fits = r .fits; value = r .value; next = refl })
+
+    count-is : readCount f 0 left at ≡ accepted (m, at + 1)
+    count-is =
+        let c = made (λ (p : ℕ × ℕ). p .0) (readCount f 0 left at) h in
+        c .answer ∙ ap₂ (λ (n e : ℕ). accepted (n, e)) (c .value) (count-read f 0 left at (c .answer) .next)
+
+    pub count-fits : at + 1 ≤ length f
+    count-fits = counted .fits
+
+    pub count-most : m ≤ left
+    count-most = counted .most
+
+    pub drawn-no-nodes : {n p : ℕ} → nextOf (readNodes f sizes m (at + 1)) ≡ refused n p → diagramAt f sizes left at ≡ refused n p
+    unfolding diagramAt readDiagram
+    drawn-no-nodes g = rw (count-is, not-made (λ (p : List Node × ℕ). p .1) (readNodes f sizes m (at + 1)) g)
+
+    module _ {end : ℕ} (g : nextOf (readNodes f sizes m (at + 1)) ≡ accepted end) where
+      abbrev nodes : List Node
+      nodes = made (λ (p : List Node × ℕ). p .1) (readNodes f sizes m (at + 1)) g .from .0
+
+      nodes-are : readNodes f sizes m (at + 1) ≡ accepted (nodes, end)
+      nodes-are = let c = made (λ (p : List Node × ℕ). p .1) (readNodes f sizes m (at + 1)) g in c .answer ∙ ap (λ (e : ℕ). accepted (nodes, e)) (c .value)
+
+      module _ {offsets : List ℕ} (k : Marked f sizes m (at + 1) offsets) where
+        pub all-inside : (j : ℕ) → j < m → getD offsets j 0 < length f
+        all-inside = noted-inside f sizes m (at + 1) nodes-are k
+
+        pub drawn-falls : {n p : ℕ} → nodesRise f sizes m offsets 0 m ≡ refused n p → diagramAt f sizes left at ≡ refused n p
+        unfolding diagramAt readDiagram
+        drawn-falls e = rw (count-is, nodes-are, rising-same f sizes m (at + 1) nodes-are k, e)
+
+        pub drawn-good : nodesRise f sizes m offsets 0 m ≡ accepted tt → diagramAt f sizes left at ≡ accepted (end, m)
+        unfolding diagramAt readDiagram
+        drawn-good e = rw (count-is, nodes-are, rising-same f sizes m (at + 1) nodes-are k, e) (ap (λ (n : ℕ). accepted (end, n)) (sym (nodes-length f sizes m (at + 1) nodes-are)))
+
+    -- the nodes of an accepted diagram lie where they are noted
+    pub placed : {used : ℕ} {before last after : List ℕ} → Back used before last after → Marked f sizes m (at + 1) last → Placed f sizes left at used before after
+    placed {used} {before} {last} {after} b k = record { kept = b .kept; lies = there-they-lie }
+      where
+        there-they-lie : (nodes : List Node) (end : ℕ) → readDiagram f sizes left at ≡ accepted (nodes, end) → (j : ℕ) (nd : Node) → At nodes j nd
+            → (next : ℕ) × (readNode f sizes (length nodes) (suc j) (getD after (used + j) 0) ≡ accepted (nd, next))
+        there-they-lie nodes end r j nd a =
+            let d = diagram-read f sizes left at r in
+            let all : m ≡ length nodes = value-of (sym count-is ∙ d .count-is) in
+            let n = node-noted f sizes (length nodes) (at + 1) (d .nodes-are) (subst (λ (n : ℕ). Marked f sizes n (at + 1) last) all k) a in
+            let same : getD last j 0 ≡ getD after (used + j) 0 = ap (λ (xs : List ℕ). getD xs j 0) (sym (b .rest)) ∙ getD-drop used after j 0 in
+            (n .0, subst (λ (o : ℕ). readNode f sizes (length nodes) (suc j) o ≡ accepted (nd, n .0)) same (n .1))
+
+-- what is noted in the part that was lent is noted in that part of the whole
+pub marked-part : (f sizes : List ℕ) (m from used : ℕ) (before : List ℕ) {last : List ℕ} → used ≤ length before → Marked f sizes m from last
+    → let after = putMid used (length before - used) before last in Marked f sizes m from (take (length after - used) (drop used after))
+marked-part f sizes m from used before {last} l k = subst (Marked f sizes m from) (sym (back used before last l .part)) k

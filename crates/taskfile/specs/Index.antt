@@ -1,0 +1,24 @@
+-- What the code's index of a task file is.
+use mathlib.Core.Path.{_≡_}
+use Prim.Native.Nat.{ℕ}
+use mathlib.Core.List.{List}
+use lib.ListN.{length}
+use Rattle.facts.specs.Read.{Read, accepted}
+use Rattle.facts.specs.Answers.{checkedAnswer}
+use Rattle.taskfile.specs.declared.Indexed.{Indexed}
+use Rattle.taskfile.specs.declared.Task.{Task}
+use Rattle.taskfile.specs.TaskFile.{checkTask}
+use Rattle.taskfile.specs.InPlace.{taskAt, Located}
+
+-- the index of an accepted file
+pub record Ready (f : List ℕ) (t : Task) : Type 0 where
+  pub counts : taskAt f ≡ accepted (t .variables, t .actions)
+  pub located : Located f (t .starts) (t .firsts) (t .nodes)
+  pub starts-long : length (t .starts) ≡ 32
+  pub firsts-long : length (t .firsts) ≡ 32
+  pub nodes-long : length (t .nodes) ≡ 64
+
+-- the answer is the check's, and where the file is accepted the index is its index
+pub record IndexOf (f : List ℕ) (r : Indexed) : Type 0 where
+  pub answer : checkedAnswer (r .answer) ≡ checkTask f
+  pub ready : checkTask f ≡ accepted tt → Ready f (r .task)

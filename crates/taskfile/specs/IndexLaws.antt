@@ -1,0 +1,212 @@
+-- Laws of the pass that checks a task file and notes where its actions and nodes start.
+use mathlib.Core.Path.{_≡_, refl, sym, ap, ap₂, _∙_, subst, subst₂}
+use mathlib.Core.Logic.{_⊎_, inl, inr}
+use Prim.Native.Nat.{ℕ, zero, suc, _+_, _*_, _-_, _≤_, _<_}
+use native.Mathlib.Nat.{suc-add, zero-add, sub-zero, eq-or-lt-of-le}
+use native.Mathlib.Numerals.{add-one}
+use native.Mathlib.Omega.{arith}
+use mathlib.Core.List.{List, [], _∷_, _++_}
+use lib.ListN.{length, getD, set, take, drop, length-append}
+use lib.Seq.{getD-set-same, getD-set-other}
+use Rattle.facts.specs.Read.{Read, accepted, refused, withValue, _>>=_}
+use Rattle.facts.specs.ReadLaws.{not-refused, through, made, not-made, value-of, next-of}
+use Rattle.facts.specs.Lists.{total, At, here, there}
+use Rattle.facts.specs.ListLaws.{at-none, at-length}
+use Rattle.facts.specs.Fields.{nextOf, Operator, readOperator}
+use Rattle.taskfile.specs.Task.{Node, Action, Task, maxNodes}
+use Rattle.taskfile.specs.TaskFile.{readNode, readDiagram, readAction, readActions, readTask}
+use Rattle.taskfile.specs.TaskReadLaws.{action-read, action-nodes}
+use Rattle.taskfile.specs.InPlace.{diagramAt, Placed, actionAt, Action-placed, Lies, Listed, taskAt, Located}
+
+-- the number of nodes of an action
+abbrev size : Action → ℕ
+size x = length (x .nodes)
+
+-- ---- one action
+
+module _ (f sizes : List ℕ) (left at : ℕ) where
+  -- what is refused has no nodes to be found
+  pub placed-none : {n p : ℕ} (used : ℕ) (nodes : List ℕ) → actionAt f sizes left at ≡ refused n p → Action-placed f sizes left at used nodes nodes
+  unfolding actionAt
+  placed-none used nodes h = record {
+    kept = λ j l. refl;
+    lies = λ x end r j nd a. absurd (not-refused (sym (not-made (λ (p : Action × ℕ). (p .1, length (p .0 .nodes))) (readAction f sizes left at) h) ∙ r));
+  }
+
+  pub action-no-front : {n p : ℕ} → nextOf (readOperator f sizes at) ≡ refused n p → actionAt f sizes left at ≡ refused n p
+  unfolding actionAt readAction
+  action-no-front h = rw (not-made (λ (p : Operator × ℕ). p .1) (readOperator f sizes at) h)
+
+  module _ {place : ℕ} (h : nextOf (readOperator f sizes at) ≡ accepted place) where
+    abbrev front : Operator
+    front = made (λ (p : Operator × ℕ). p .1) (readOperator f sizes at) h .from .0
+
+    front-is : readOperator f sizes at ≡ accepted (front, place)
+    front-is = let m = made (λ (p : Operator × ℕ). p .1) (readOperator f sizes at) h in m .answer ∙ ap (λ (e : ℕ). accepted (front, e)) (m .value)
+
+    -- past an action is past its diagram
+    pub action-diagram : actionAt f sizes left at ≡ diagramAt f sizes left place
+    unfolding actionAt readAction diagramAt
+    action-diagram = rw front-is (go (readDiagram f sizes left place))
+      where
+        go : (r : Read (List Node × ℕ))
+            → withValue {Y = ℕ × ℕ} (λ (p : Action × ℕ). (p .1, length (p .0 .nodes))) (_>>=_ r (λ (p : List Node × ℕ). accepted (record { pre = front .pre; eff = front .eff; incoming = front .weight; nodes = p .0 }, p .1)))
+            ≡ withValue {Y = ℕ × ℕ} (λ (p : List Node × ℕ). (p .1, length (p .0))) r
+        go (accepted p) = refl
+        go (refused n p) = refl
+
+    pub action-placed : {used : ℕ} {before after : List ℕ} → Placed f sizes left place used before after → Action-placed f sizes left at used before after
+    action-placed p = record {
+      kept = p .kept;
+      lies = λ x end r j nd a.
+          let o = action-read f sizes left at r in
+          let same : o .place ≡ place = next-of (sym (o .front-is) ∙ front-is) in
+          p .lies (x .nodes) end (ap (readDiagram f sizes left) (sym same) ∙ o .diagram-is) j nd a;
+    }
+
+  -- what was answered of an action that was read
+  action-is : {next nodes : ℕ} → actionAt f sizes left at ≡ accepted (next, nodes) → (x : Action) × (readAction f sizes left at ≡ accepted (x, next)) × (size x ≡ nodes)
+  unfolding actionAt
+  action-is h =
+      let m = made (λ (p : Action × ℕ). (p .1, length (p .0 .nodes))) (readAction f sizes left at) h in
+      (m .from .0, m .answer ∙ ap (λ (e : ℕ). accepted (m .from .0, e)) (ap (λ (p : ℕ × ℕ). p .0) (m .value)), ap (λ (p : ℕ × ℕ). p .1) (m .value))
+
+  action-not : {n p : ℕ} → actionAt f sizes left at ≡ refused n p → readAction f sizes left at ≡ refused n p
+  unfolding actionAt
+  action-not h = not-made (λ (p : Action × ℕ). (p .1, length (p .0 .nodes))) (readAction f sizes left at) h
+
+-- ---- the actions that are left after those that were read
+
+module _ (f sizes : List ℕ) where
+  abbrev Joined : List Action → Read (List Action × ℕ) → Read (List Action × ℕ)
+  Joined xs r = _>>=_ r (λ (p : List Action × ℕ). accepted (xs ++ p .0, p .1))
+
+  joined-none : (r : Read (List Action × ℕ)) → r ≡ Joined [] r
+  joined-none (accepted p) = refl
+  joined-none (refused n p) = refl
+
+  joined-one : (x : Action) (xs : List Action) (r : Read (List Action × ℕ)) → _>>=_ (Joined xs r) (λ (p : List Action × ℕ). accepted (x ∷ p .0, p .1)) ≡ Joined (x ∷ xs) r
+  joined-one x xs (accepted p) = refl
+  joined-one x xs (refused n p) = refl
+
+  actions-after : (a c left at : ℕ) {xs : List Action} {q : ℕ} → readActions f sizes a left at ≡ accepted (xs, q)
+      → readActions f sizes (a + c) left at ≡ Joined xs (readActions f sizes c (left - total size xs) q)
+  unfolding readActions
+  actions-after zero c left at {xs} {q} h =
+      let list = value-of h in
+      let next = next-of h in
+      rw (zero-add c, ← list, ← next, sub-zero left) (joined-none (readActions f sizes c left at))
+  actions-after (suc a) c left at {xs} {q} h =
+      let o = through (readAction f sizes left at) h in
+      let x = o .got .0 in
+      let p = through (readActions f sizes a (left - size x) (o .got .1)) (o .then) in
+      let ys = p .got .0 in
+      let list : x ∷ ys ≡ xs = value-of (p .then) in
+      let next : p .got .1 ≡ q = next-of (p .then) in
+      let n : suc a + c ≡ suc (a + c) = suc-add a c in
+      let room : left - size x - total size ys ≡ left - (size x + total size ys) = omega arith in
+      ap (λ (k : ℕ). readActions f sizes k left at) n
+      ∙ ap (λ (r : Read (Action × ℕ)). _>>=_ r (λ (u : Action × ℕ). _>>=_ (readActions f sizes (a + c) (left - size (u .0)) (u .1)) (λ (v : List Action × ℕ). accepted (u .0 ∷ v .0, v .1)))) (o .first)
+      ∙ ap (λ (r : Read (List Action × ℕ)). _>>=_ r (λ (v : List Action × ℕ). accepted (x ∷ v .0, v .1))) (actions-after a c (left - size x) (o .got .1) (p .first))
+      ∙ joined-one x ys (readActions f sizes c (left - size x - total size ys) (p .got .1))
+      ∙ ap (λ (k : ℕ). Joined (x ∷ ys) (readActions f sizes c k (p .got .1))) room
+      ∙ ap₂ (λ (zs : List Action) (e : ℕ). Joined zs (readActions f sizes c (left - total size zs) e)) list next
+
+  pub actions-count : (a left at : ℕ) {xs : List Action} {q : ℕ} → readActions f sizes a left at ≡ accepted (xs, q) → length xs ≡ a
+  unfolding readActions
+  actions-count zero left at h = rw (← value-of h)
+  actions-count (suc a) left at h =
+      let o = through (readAction f sizes left at) h in
+      let p = through (readActions f sizes a (left - size (o .got .0)) (o .got .1)) (o .then) in
+      rw (← value-of (p .then)) (ap suc (actions-count a (left - size (o .got .0)) (o .got .1) (p .first)))
+
+  -- one action more
+  pub actions-snoc : (a left at : ℕ) {xs : List Action} {q : ℕ} {x : Action} {e : ℕ} → readActions f sizes a left at ≡ accepted (xs, q) → readAction f sizes (left - total size xs) q ≡ accepted (x, e)
+      → readActions f sizes (a + 1) left at ≡ accepted (xs ++ (x ∷ []), e)
+  unfolding readActions
+  actions-snoc a left at h g = actions-after a 1 left at h ∙ rw g
+
+  -- and none more
+  pub actions-stop : (a count left at : ℕ) {xs : List Action} {q n p : ℕ} → a < count → readActions f sizes a left at ≡ accepted (xs, q) → readAction f sizes (left - total size xs) q ≡ refused n p
+      → readActions f sizes count left at ≡ refused n p
+  unfolding readActions
+  actions-stop a count left at {xs} {q} {n} {p} l h g =
+      let k : count ≡ a + suc (count - suc a) = omega arith in
+      ap (λ (j : ℕ). readActions f sizes j left at) k ∙ actions-after a (suc (count - suc a)) left at h ∙ rw g
+
+-- ---- the pass over the actions: a of them are read, up to an offset, and have `used` nodes
+
+pub record Going (f sizes : List ℕ) (a from at used : ℕ) (actions firsts nodes : List ℕ) : Type 0 where
+  pub done : List Action
+  pub reads : readActions f sizes a maxNodes from ≡ accepted (done, at)
+  pub uses : total size done ≡ used
+  pub within : used ≤ maxNodes
+  pub lies : (b : ℕ) (x : Action) → At done b x → Lies f sizes x (getD actions b 0) (getD firsts b 0) nodes × (getD firsts b 0 + size x ≤ used)
+
+pub going-start : (f sizes : List ℕ) (from : ℕ) (actions firsts nodes : List ℕ) → Going f sizes 0 from from 0 actions firsts nodes
+unfolding readActions
+going-start f sizes from actions firsts nodes = record { done = []; reads = refl; uses = refl; within = omega arith; lies = λ b x a. absurd (at-none a) }
+
+total-snoc : (xs : List Action) (x : Action) → total size (xs ++ (x ∷ [])) ≡ total size xs + size x
+total-snoc [] x = omega arith
+total-snoc (y ∷ xs) x = omega (arith, total-snoc xs x)
+
+-- an element of a list and one more: it is one of the list, or it is the last
+snoc-at : (xs : List Action) (y : Action) {b : ℕ} {x : Action} → At (xs ++ (y ∷ [])) b x → At xs b x ⊎ ((b ≡ length xs) × (y ≡ x))
+snoc-at [] y here = inr (refl, refl)
+snoc-at [] y (there a) = absurd (at-none a)
+snoc-at (z ∷ xs) y here = inl here
+snoc-at (z ∷ xs) y (there a) = elim (snoc-at xs y a) [ inl g ↦ inl (there g) | inr g ↦ inr (ap suc (g .0), g .1) ]
+
+module _ {f sizes : List ℕ} {a from at used : ℕ} {actions firsts nodes : List ℕ} (g : Going f sizes a from at used actions firsts nodes) where
+  abbrev left : ℕ
+  left = maxNodes - used
+
+  count-is : length (g .done) ≡ a
+  count-is = actions-count f sizes a maxNodes from (g .reads)
+
+  going-more : {next : ℕ} {x : Action} {nodes′ : List ℕ} → a < length actions → a < length firsts → readAction f sizes left at ≡ accepted (x, next) → Action-placed f sizes left at used nodes nodes′
+      → Going f sizes (a + 1) from next (used + size x) (set actions a at) (set firsts a used) nodes′
+  going-more {next} {x} {nodes′} l m r p = record {
+    done = g .done ++ (x ∷ []);
+    reads = actions-snoc f sizes a maxNodes from (g .reads) (ap (λ (k : ℕ). readAction f sizes (maxNodes - k) at) (g .uses) ∙ r);
+    uses = total-snoc (g .done) x ∙ ap (λ (k : ℕ). k + size x) (g .uses);
+    within = omega (arith, g .within, action-nodes f (action-read f sizes left at r));
+    lies = λ b y i. elim (snoc-at (g .done) x i) [
+      | inl j ↦
+          let o = g .lies b y j in
+          let n : b < a = omega (arith, at-length j, count-is) in
+          rw (getD-set-other actions a b at 0 (λ q. omega arith), getD-set-other firsts a b used 0 (λ q. omega arith)) (
+            record { left = o .0 .left; next = o .0 .next; action = o .0 .action; node = λ k nd h. rw (p .kept (getD firsts b 0 + k) (omega (arith, at-length h))) (o .0 .node k nd h) },
+            omega arith,
+          )
+      | inr j ↦
+          let n : b ≡ a = j .0 ∙ count-is in
+          subst (λ (z : Action). Lies f sizes z (getD (set actions a at) b 0) (getD (set firsts a used) b 0) nodes′ × (getD (set firsts a used) b 0 + size z ≤ used + size x)) (j .1)
+          (rw (n, getD-set-same actions a at 0 l, getD-set-same firsts a used 0 m) (
+            record { left = left; next = next; action = r; node = λ k nd h. p .lies x next r k nd h },
+            omega arith,
+          ))
+    ];
+  }
+
+  -- one more, by what a reader knows that goes past it
+  pub going-next : {next m : ℕ} {nodes′ : List ℕ} → a < length actions → a < length firsts → actionAt f sizes left at ≡ accepted (next, m) → Action-placed f sizes left at used nodes nodes′
+      → Going f sizes (a + 1) from next (used + m) (set actions a at) (set firsts a used) nodes′
+  going-next {next} {nodes′ = nodes′} l k r p =
+      let o = action-is f sizes left at r in
+      subst (λ (m : ℕ). Going f sizes (a + 1) from next (used + m) (set actions a at) (set firsts a used) nodes′) (o .2) (going-more l k (o .1) p)
+
+  -- and none more
+  pub going-stop : {count n p : ℕ} → a < count → actionAt f sizes left at ≡ refused n p → nextOf (readActions f sizes count maxNodes from) ≡ refused n p
+  going-stop {count} l r = ap nextOf (actions-stop f sizes a count maxNodes from l (g .reads) (ap (λ (k : ℕ). readAction f sizes (maxNodes - k) at) (g .uses) ∙ action-not f sizes left at r))
+
+  -- at the last
+  pub going-end : {count : ℕ} → a ≡ count → nextOf (readActions f sizes count maxNodes from) ≡ accepted at
+  going-end e = rw (← e) (ap nextOf (g .reads))
+
+  pub going-listed : {count : ℕ} → a ≡ count → Listed f sizes count from actions firsts nodes
+  going-listed e = rw (← e) (record { lies = λ xs end r b x i. g .lies b x (subst (λ (ys : List Action). At ys b x) (value-of (sym r ∙ g .reads)) i) .0 })
+
+pub listed-none : (f sizes : List ℕ) (count from : ℕ) (actions firsts nodes : List ℕ) {n p : ℕ} → nextOf (readActions f sizes count maxNodes from) ≡ refused n p → Listed f sizes count from actions firsts nodes
+listed-none f sizes count from actions firsts nodes h = record { lies = λ xs end r a x i. absurd (not-refused (sym (not-made (λ (p : List Action × ℕ). p .1) (readActions f sizes count maxNodes from) h) ∙ r)) }

@@ -1,0 +1,165 @@
+-- Laws of moves in place: what an action does by its bytes, and that a run by the offsets of an accepted file is one of the actions that were read.
+use mathlib.Core.Path.{_≡_, refl, sym, ap, _∙_}
+use Prim.Native.Nat.{ℕ, _+_, _-_, _≤_, _<_, min}
+use native.Mathlib.Nat.{lt-of-not-le}
+use native.Mathlib.Decide.{decLe}
+use native.Mathlib.Omega.{arith}
+use mathlib.Core.Bool.{Bool, true, false}
+use mathlib.Core.List.{List, []}
+use lib.ListN.{length, getD, take, drop, length-drop, drop-of-length-le}
+use lib.Seq.{getD-take, take-length}
+use Rattle.facts.specs.Read.{accepted, refused}
+use Rattle.facts.specs.Lists.{At}
+use Rattle.facts.specs.ListLaws.{at-getD, at-length}
+use Rattle.facts.specs.Partial.{Partial, holds, apply, partialAt, pastPartial}
+use Rattle.facts.specs.State.{Inside}
+use Rattle.facts.specs.Run.{Move, next, blocked, attempt, runFrom}
+use Rattle.facts.specs.RunLaws.{attempt-length, run-missing, run-blocked, run-next, run-unmet, run-met, run-same, list-long, list-fits}
+use Rattle.taskfile.specs.Task.{Action, Task, Walk, maxList, walk, actionMove, actionPasses, taskSum}
+use Rattle.taskfile.specs.TaskFile.{readTask}
+use Rattle.taskfile.specs.InPlace.{Located}
+use Rattle.taskfile.specs.TaskReadLaws.{task-wf}
+use Rattle.taskfile.specs.TaskLaws.{move-at, passes-at, attempt-inside}
+use Rattle.taskfile.specs.WalkInPlace.{walkAt, performBy, performAt, moveBy, moveAt, passesAt, runList}
+use Rattle.taskfile.specs.WalkInPlaceLaws.{perform-in-place}
+
+-- ---- what an action in place does
+
+-- the same move at another cost
+abbrev pub atCost : ℕ → Move → Move
+atCost c (next s paid) = next s c
+atCost c blocked = blocked
+
+attempt-at : (pre eff : Partial) (paid c : ℕ) (s : List ℕ) → atCost c (attempt pre eff paid s) ≡ attempt pre eff c s
+attempt-at pre eff paid c s = go (holds pre s)
+  where
+    go : (b : Bool) → atCost c (elim b as (λ b. Move) [ true ↦ next (apply eff s) paid | false ↦ blocked ]) ≡ elim b as (λ b. Move) [ true ↦ next (apply eff s) c | false ↦ blocked ]
+    go true = refl
+    go false = refl
+
+module _ (f : List ℕ) (at : ℕ) (nodes s : List ℕ) where
+  pub performs : {effect : Partial} {cost : ℕ} → effect ≡ partialAt f (pastPartial f at) → cost ≡ walkAt f at nodes s .cost → holds (partialAt f at) s ≡ true → next (apply effect s) cost ≡ performAt f at nodes s
+  unfolding performBy
+  performs e c h = rw (h, attempt, e, c)
+
+  pub performs-not : holds (partialAt f at) s ≡ false → blocked ≡ performAt f at nodes s
+  unfolding performBy
+  performs-not h = rw (h, attempt)
+
+  -- by every measure of the walk it applies or not, and leads to the same state
+  performs-too : (measure other : Walk → ℕ) → atCost (other (walkAt f at nodes s)) (performBy measure f at nodes s) ≡ performBy other f at nodes s
+  unfolding performBy
+  performs-too measure other = attempt-at (partialAt f at) (partialAt f (pastPartial f at)) (measure (walkAt f at nodes s)) (other (walkAt f at nodes s)) s
+
+-- ---- moves
+
+-- the offsets of an action's own nodes: those from index n on, where the index k is n, or the end of all offsets
+pub own-nodes : (nodes : List ℕ) (n : ℕ) {k : ℕ} → k ≡ min n (length nodes) → take (length nodes - k) (drop k nodes) ≡ drop n nodes
+own-nodes nodes n {k} e =
+    let whole : take (length nodes - k) (drop k nodes) ≡ drop k nodes = rw (← length-drop k nodes) (take-length (drop k nodes)) in
+    whole
+    ∙ elim (decLe n (length nodes)) [
+      | yes h ↦ let same : k ≡ n = omega arith in rw same
+      | no h ↦ drop-of-length-le nodes {i = k} (omega (arith, lt-of-not-le h)) ∙ sym (drop-of-length-le nodes {i = n} (omega (arith, lt-of-not-le h)))
+    ]
+
+module _ (f actions firsts nodes : List ℕ) (a : ℕ) (s : List ℕ) where
+  module _ {k : ℕ} {m : Move} (e : k ≡ min (getD firsts a 0) (length nodes)) (h : m ≡ performAt f (getD actions a 0) (take (length nodes - k) (drop k nodes)) s) where
+    -- what the action at an offset does is what its number does
+    pub moves : m ≡ moveAt f actions firsts nodes a s
+    unfolding moveBy
+    moves = h ∙ ap (λ (own : List ℕ). performAt f (getD actions a 0) own s) (own-nodes nodes (getD firsts a 0) e)
+
+    -- and so it is with the nodes passed in place of the cost
+    pub passes : {passed : ℕ} → passed ≡ walkAt f (getD actions a 0) (take (length nodes - k) (drop k nodes)) s .passed → atCost passed m ≡ passesAt f actions firsts nodes a s
+    unfolding moveBy
+    passes p =
+        rw (p, h) (performs-too f (getD actions a 0) (take (length nodes - k) (drop k nodes)) s (λ (w : Walk). w .cost) (λ (w : Walk). w .passed))
+        ∙ ap (λ (own : List ℕ). performBy (λ (w : Walk). w .passed) f (getD actions a 0) own s) (own-nodes nodes (getD firsts a 0) e)
+
+  -- a state keeps its length
+  pub move-length : {e : List ℕ} {c : ℕ} → moveAt f actions firsts nodes a s ≡ next e c → length e ≡ length s
+  unfolding moveBy performBy
+  move-length h =
+      let at = getD actions a 0 in
+      attempt-length (partialAt f at) (partialAt f (pastPartial f at)) (walkAt f at (drop (getD firsts a 0) nodes) s .cost) s h
+
+-- ---- a run, number by number
+
+-- what is left of the list from number i on answers in the state s, with `sum` paid, what the whole list answers in the state `from`
+pub record Running (count : ℕ) (move : ℕ → List ℕ → Move) (goal : Partial) (list from : List ℕ) (i sum : ℕ) (s : List ℕ) : Type 0 where
+  pub left : runList count move goal list from ≡ runFrom count move goal i sum (drop i list) s
+
+module _ (count : ℕ) (move : ℕ → List ℕ → Move) (goal : Partial) (list from : List ℕ) where
+  -- a list over its limit
+  pub run-long : maxList < length list → refused 8 maxList ≡ runList count move goal list from
+  unfolding runList
+  run-long h = rw (list-long maxList list h)
+
+  -- all of a list within it is left at first
+  pub run-starts : length list ≤ maxList → Running count move goal list from 0 0 from
+  unfolding runList
+  run-starts h = record { left = rw (list-fits maxList list h) }
+
+-- the ways in which it goes on
+module _ {count : ℕ} {move : ℕ → List ℕ → Move} {goal : Partial} {list from : List ℕ} {i sum : ℕ} {s : List ℕ} (r : Running count move goal list from i sum s) where
+  pub running-missing : i < length list → count ≤ getD list i 0 → refused 11 i ≡ runList count move goal list from
+  running-missing l h = sym (r .left ∙ run-missing count move goal list s i sum l h)
+
+  pub running-blocked : i < length list → getD list i 0 < count → blocked ≡ move (getD list i 0) s → refused 9 i ≡ runList count move goal list from
+  running-blocked l h m = sym (r .left ∙ run-blocked count move goal list s i sum l h (sym m))
+
+  pub running-next : {e : List ℕ} {c : ℕ} → i < length list → getD list i 0 < count → next e c ≡ move (getD list i 0) s → Running count move goal list from (i + 1) (sum + c) e
+  running-next l h m = record { left = r .left ∙ run-next count move goal list s i sum l h (sym m) }
+
+  pub running-met : length list ≤ i → true ≡ holds goal s → accepted sum ≡ runList count move goal list from
+  running-met l h = sym (r .left ∙ run-met count move goal list s i sum l (sym h))
+
+  pub running-unmet : length list ≤ i → false ≡ holds goal s → refused 10 i ≡ runList count move goal list from
+  running-unmet l h = sym (r .left ∙ run-unmet count move goal list s i sum l (sym h))
+
+-- ---- an accepted file
+
+module _ (f : List ℕ) {t : Task} (r : readTask f ≡ accepted t) {actions firsts nodes : List ℕ} (loc : Located f actions firsts nodes) where
+  -- the offsets and first nodes of the actions alone are enough
+  at-below : {t′ : Task} (n : ℕ) {a : ℕ} {x : Action} → length (t .actions) ≤ n → readTask f ≡ accepted t′ → At (t′ .actions) a x → a < n
+  at-below {t′} n few r′ h = let same : t′ ≡ t = cc (sym r′ ∙ r) in omega (arith, at-length h, ap (λ (t : Task). length (t .actions)) same)
+
+  pub located-actions : (n : ℕ) → length (t .actions) ≤ n → Located f (take n actions) firsts nodes
+  located-actions n few = record { lies = λ t′ r′ a x h. rw (getD-take n actions a 0 (at-below n few r′ h)) (loc .lies t′ r′ a x h) }
+
+  pub located-firsts : (n : ℕ) → length (t .actions) ≤ n → Located f actions (take n firsts) nodes
+  located-firsts n few = record { lies = λ t′ r′ a x h. rw (getD-take n firsts a 0 (at-below n few r′ h)) (loc .lies t′ r′ a x h) }
+
+  module _ (all : length actions ≡ length (t .actions)) where
+    abbrev nothing : Action
+    nothing = record { pre = record { map = 0; values = [] }; eff = record { map = 0; values = [] }; incoming = 0; nodes = [] }
+
+    at-action : (a : ℕ) → a < length actions → At (t .actions) a (getD (t .actions) a nothing)
+    at-action a l = at-getD (t .actions) a nothing (omega arith)
+
+    -- by a measure of walks, where `move` is by that measure what the actions do that were read
+    module _ (measure : Walk → ℕ) (move : ℕ → List ℕ → Move) (does : (a : ℕ) (x : Action) (s : List ℕ) → At (t .actions) a x → move a s ≡ attempt (x .pre) (x .eff) (measure (walk x s)) s) where
+      move-in-place : (a : ℕ) (s : List ℕ) → a < length actions → Inside (t .sizes) s → let x = getD (t .actions) a nothing in moveBy measure f actions firsts nodes a s ≡ attempt (x .pre) (x .eff) (measure (walk x s)) s
+      unfolding moveBy
+      move-in-place a s l inside = perform-in-place f (loc .lies t r a (getD (t .actions) a nothing) (at-action a l)) s inside measure
+
+      -- the runs agree
+      run-in-place : (goal : ℕ) (list init : List ℕ) → init ≡ t .init → partialAt f goal ≡ t .goal
+          → runFrom (length actions) (moveBy measure f actions firsts nodes) (partialAt f goal) 0 0 list init ≡ runFrom (length (t .actions)) move (t .goal) 0 0 list (t .init)
+      run-in-place goal list init i g =
+          rw (i, g)
+          (run-same (length actions) (moveBy measure f actions firsts nodes) move (t .goal) (Inside (t .sizes))
+          (λ a s l i. move-in-place a s l i ∙ sym (does a (getD (t .actions) a nothing) s (at-action a l)))
+          (λ a s e c l i h. attempt-inside (task-wf f r .actions (at-action a l)) s i (measure (walk (getD (t .actions) a nothing) s)) (sym (move-in-place a s l i) ∙ h))
+          list (t .init) 0 0 (task-wf f r .init))
+          ∙ ap (λ (n : ℕ). runFrom n move (t .goal) 0 0 list (t .init)) all
+
+    -- a run by the offsets is one of the actions that were read, in its sum and in the nodes passed
+    module _ (goal : ℕ) (list init : List ℕ) (i : init ≡ t .init) (g : partialAt f goal ≡ t .goal) where
+      pub sum-in-place : runFrom (length actions) (moveAt f actions firsts nodes) (partialAt f goal) 0 0 list init ≡ taskSum t list
+      unfolding taskSum
+      sum-in-place = run-in-place (λ (w : Walk). w .cost) (actionMove (t .actions)) (λ a x s h. move-at (t .actions) s h) goal list init i g
+
+      pub passed-in-place : runFrom (length actions) (passesAt f actions firsts nodes) (partialAt f goal) 0 0 list init ≡ runFrom (length (t .actions)) (actionPasses (t .actions)) (t .goal) 0 0 list (t .init)
+      passed-in-place = run-in-place (λ (w : Walk). w .passed) (actionPasses (t .actions)) (λ a x s h. passes-at (t .actions) s h) goal list init i g

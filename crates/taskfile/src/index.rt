@@ -1,0 +1,118 @@
+// The one pass over a task file that checks it and notes where its actions and nodes start.
+use crate::Counted;
+use crate::Drawn;
+use crate::Task;
+use crate::diagram::diagram_end;
+use facts::Field;
+use facts::Headed;
+use facts::Past;
+use facts::Refusal;
+ghost use mathlib.Core.Path.{_≡_};
+ghost use Prim.Native.Nat.{_-_, _≤_};
+ghost use lib.ListN.{length};
+ghost use Rattle.facts.specs.Read.{accepted};
+ghost use Rattle.facts.specs.Answers.{pastAnswer};
+ghost use Rattle.facts.specs.Fields.{nextOf, headAt};
+ghost use Rattle.taskfile.specs.TaskFile.{readActions};
+ghost use Rattle.taskfile.specs.Answers.{drawnAnswer, countedAnswer};
+ghost use Rattle.taskfile.specs.InPlace.{actionAt, Action-placed, Listed, taskAt, Located};
+
+// How many variables and actions a task file has; where each action starts, which of all nodes is its first, and where each node starts.
+pub fn index_into(
+    file: &[u8],
+    action_at: &mut [usize],
+    first_node: &mut [usize],
+    node_at: &mut [usize],
+) -> Counted
+    requires { ⌜ (32 ≤ length (now «action_at»)) × (32 ≤ length (now «first_node»)) × (64 ≤ length (now «node_at»)) ⌝ }
+    ensures { λ r. ⌜ (countedAnswer r ≡ taskAt (now (file .entry))) × Located (now (file .entry)) (now («action_at» .exit)) (now («first_node» .exit)) (now («node_at» .exit)) ⌝ }
+{
+    match facts::head::read_head(file, Task::MAX_VARIABLES, Task::MAX_VALUES) {
+        Headed::Refused(why) => Counted::Refused(why),
+        Headed::Head(variables, at) => {
+            index_actions(file, variables, at, action_at, first_node, node_at)
+        }
+    }
+}
+
+// The same, past the head, which ends at `at`.
+fn index_actions(
+    file: &[u8],
+    variables: usize,
+    at: usize,
+    action_at: &mut [usize],
+    first_node: &mut [usize],
+    node_at: &mut [usize],
+) -> Counted
+    requires { ⌜ (headAt (now file) 24 8 ≡ accepted (variables, at)) × (32 ≤ length (now «action_at»)) × (32 ≤ length (now «first_node»)) × (64 ≤ length (now «node_at»)) ⌝ }
+    ensures { λ r. ⌜ (countedAnswer r ≡ taskAt (now (file .entry))) × Located (now (file .entry)) (now («action_at» .exit)) (now («first_node» .exit)) (now («node_at» .exit)) ⌝ }
+{
+    match facts::head::read_count(file, at, 1, Task::MAX_ACTIONS) {
+        Field::Refused(why) => Counted::Refused(why),
+        Field::Value(count) => {
+            let actions = count as usize;
+            let last = 1 + variables;
+            match actions_end(
+                file,
+                at + 1,
+                &file[1..last],
+                actions,
+                action_at,
+                first_node,
+                node_at,
+            ) {
+                Past::Refused(why) => Counted::Refused(why),
+                Past::Next(end) => {
+                    if end < file.len() {
+                        return Counted::Refused(Refusal::Trailing(end));
+                    }
+                    Counted::Actions(variables, actions)
+                }
+            }
+        }
+    }
+}
+
+// Past the actions, noting where each starts and which node is its first.
+fn actions_end(
+    file: &[u8],
+    from: usize,
+    sizes: &[u8],
+    count: usize,
+    action_at: &mut [usize],
+    first_node: &mut [usize],
+    node_at: &mut [usize],
+) -> Past
+    requires { ⌜ (count ≤ length (now «action_at»)) × (count ≤ length (now «first_node»)) × (64 ≤ length (now «node_at»)) ⌝ }
+    ensures { λ r. ⌜ (pastAnswer r ≡ nextOf (readActions (now (file .entry)) (now (sizes .entry)) count 64 from)) × Listed (now (file .entry)) (now (sizes .entry)) count from (now («action_at» .exit)) (now («first_node» .exit)) (now («node_at» .exit)) ⌝ }
+{
+    let mut at = from;
+    let mut used: usize = 0;
+    let mut a: usize = 0;
+    while a < count {
+        action_at[a] = at;
+        first_node[a] = used;
+        match action_end(file, at, sizes, used, node_at) {
+            Drawn::Next(next, nodes) => {
+                at = next;
+                used += nodes;
+            }
+            Drawn::Refused(why) => {
+                return Past::Refused(why);
+            }
+        }
+        a += 1;
+    }
+    Past::Next(at)
+}
+
+// Past an action: its front, and its diagram, whose nodes are noted from index `used` on.
+fn action_end(file: &[u8], at: usize, sizes: &[u8], used: usize, node_at: &mut [usize]) -> Drawn
+    requires { ⌜ (used ≤ 64) × (64 ≤ length (now «node_at»)) ⌝ }
+    ensures { λ r. ⌜ (drawnAnswer r ≡ actionAt (now (file .entry)) (now (sizes .entry)) (64 - used) at) × Action-placed (now (file .entry)) (now (sizes .entry)) (64 - used) at used (now («node_at» .entry)) (now («node_at» .exit)) ⌝ }
+{
+    match facts::partial::operator_end(file, at, sizes) {
+        Past::Refused(why) => Drawn::Refused(why),
+        Past::Next(place) => diagram_end(file, place, sizes, used, node_at),
+    }
+}

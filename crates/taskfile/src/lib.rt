@@ -1,0 +1,82 @@
+// Task files in place: checked and indexed in one pass; walks, actions and lists of them by the index.
+pub mod action;
+mod diagram;
+mod index;
+pub mod walk;
+
+use facts::Checked;
+use facts::Refusal;
+ghost use Rattle.taskfile.specs.Index.{IndexOf};
+
+// Where the parts of an accepted task file stand: how many variables and actions it has, where each action starts, which of all nodes is its first, and where each node starts.
+pub struct Task {
+    pub variables: usize,
+    pub actions: usize,
+    pub starts: [usize; 32],
+    pub firsts: [usize; 32],
+    pub nodes: [usize; 64],
+}
+
+impl Task {
+    pub const MAX_VARIABLES: u64 = 24;
+
+    pub const MAX_VALUES: u64 = 8;
+
+    pub const MAX_ACTIONS: u64 = 32;
+
+    pub const MAX_NODES: usize = 64;
+
+    pub const MAX_BYTES: usize = 3826;
+
+    pub const MAX_LIST: usize = 256;
+}
+
+// The index of a file, and whether it is accepted.
+pub struct Indexed {
+    pub answer: Checked,
+    pub task: Task,
+}
+
+// Where the next field starts, and how many nodes the diagram before it has.
+pub enum Drawn {
+    Next(usize, usize),
+    Refused(Refusal),
+}
+
+// How many variables and how many actions an accepted file has.
+pub enum Counted {
+    Actions(usize, usize),
+    Refused(Refusal),
+}
+
+// Where the parts of a task file stand, if it is accepted.
+pub fn index_of(file: &[u8]) -> Indexed
+    ensures { λ r. ⌜ IndexOf (now (file .entry)) r ⌝ }
+{
+    let mut action_at = [0; 32];
+    let mut first_node = [0; 32];
+    let mut node_at = [0; 64];
+    let counted = index::index_into(file, &mut action_at, &mut first_node, &mut node_at);
+    match counted {
+        Counted::Refused(why) => Indexed {
+            answer: Checked::Refused(why),
+            task: Task {
+                variables: 0,
+                actions: 0,
+                starts: action_at,
+                firsts: first_node,
+                nodes: node_at,
+            },
+        },
+        Counted::Actions(variables, actions) => Indexed {
+            answer: Checked::Accepted,
+            task: Task {
+                variables: variables,
+                actions: actions,
+                starts: action_at,
+                firsts: first_node,
+                nodes: node_at,
+            },
+        },
+    }
+}
