@@ -5,6 +5,7 @@ pub mod Compile
 pub mod Examples
 -- Laws.
 pub mod ExtendLaws
+pub mod AskLaws
 pub mod StepLaws
 pub mod CompiledLaws
 pub mod CompiledLengthLaws

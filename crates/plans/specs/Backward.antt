@@ -17,7 +17,7 @@ use Rattle.compilation.specs.Compile.{probeOf}
 use Rattle.plans.specs.Carry.{firstStep, expandFrom, expand}
 use Rattle.plans.specs.RunLaws.{pay, reaches-step, reaches-end}
 use Rattle.plans.specs.ViewLaws.{edgeNumber, endNumber}
-use Rattle.plans.specs.StepLaws.{State, Scene, next-state}
+use Rattle.compilation.specs.AskLaws.{State, Scene, next-state}
 use Rattle.plans.specs.MoveLaws.{idle, midway, goal-idle, goal-midway, idle-inv, midway-inv, passed-edge, passed-end}
 use Rattle.plans.specs.Forward.{stepsLeft, costLeft, Runs, cost-whole, node-steps, node-cost, last-steps, last-cost}
 

@@ -16,7 +16,7 @@ use Rattle.plans.specs.Carry.{firstStep, expandFrom, expand, startedBy, 
 use Rattle.plans.specs.ListLaws.{total-take}
 use Rattle.plans.specs.RunLaws.{action-moved}
 use Rattle.plans.specs.ViewLaws.{edgeNumber, endNumber}
-use Rattle.plans.specs.StepLaws.{State, Scene, next-state}
+use Rattle.compilation.specs.AskLaws.{State, Scene, next-state}
 use Rattle.plans.specs.MoveLaws.{value-edge}
 use Rattle.plans.specs.Forward.{stepsLeft, node-steps, last-steps, path-induction}
 

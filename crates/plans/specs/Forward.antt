@@ -17,7 +17,7 @@ use Rattle.plans.specs.Carry.{firstStep, pathSteps, actionList, expandFr
 use Rattle.plans.specs.PathLaws.{steps-at, steps-end}
 use Rattle.plans.specs.RunLaws.{action-moved, pay}
 use Rattle.plans.specs.ViewLaws.{edgeNumber, endNumber}
-use Rattle.plans.specs.StepLaws.{State, Scene, action-wf, next-state}
+use Rattle.compilation.specs.AskLaws.{State, Scene, action-wf, next-state}
 use Rattle.plans.specs.MoveLaws.{idle, midway, move, probeGoal, goal-idle, start-move, edge-move, end-move}
 
 -- the steps that are left of action a, which is x, at its node `at` or at its terminal

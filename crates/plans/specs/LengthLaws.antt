@@ -21,7 +21,7 @@ use Rattle.probe.specs.Probe.{maxList as maxProbeList}
 use Rattle.compilation.specs.Compile.{edgeCount}
 use Rattle.plans.specs.Carry.{firstStep, pathSteps, actionList, expandFrom, expand}
 use Rattle.plans.specs.RunLaws.{action-moved}
-use Rattle.plans.specs.StepLaws.{State, Scene, action-wf, next-state}
+use Rattle.compilation.specs.AskLaws.{State, Scene, action-wf, next-state}
 
 -- ---- one action
 

@@ -4,7 +4,6 @@ pub mod Carry
 pub mod ListLaws
 pub mod PathLaws
 pub mod ViewLaws
-pub mod StepLaws
 pub mod RunLaws
 pub mod MoveLaws
 pub mod Forward

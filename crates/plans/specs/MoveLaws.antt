@@ -11,21 +11,19 @@ use lib.Seq.{getD-set-same, getD-set-other, set-set}
 use Rattle.facts.specs.Lists.{At}
 use Rattle.facts.specs.ListLaws.{at-length}
 use Rattle.facts.specs.Partial.{Partial, holds, apply}
-use Rattle.facts.specs.PartialLaws.{inside-length, wf-below}
 use Rattle.facts.specs.Run.{Move, next}
 use Rattle.facts.specs.RunLaws.{attempt-next}
 use Rattle.taskfile.specs.Task.{Edge, Node, Action, Task, edgeAt}
 use Rattle.taskfile.specs.WalkLaws.{edge-there}
 use Rattle.probe.specs.Probe.{Step, stepMove}
 use Rattle.probe.specs.ProbeLaws.{move-at}
-use Rattle.compilation.specs.Extend.{clear}
-use Rattle.compilation.specs.ExtendLaws.{and-true, allZero, clear-holds}
-use Rattle.compilation.specs.Compile.{variables, edgeStep, endStep, stepsOf}
+use Rattle.compilation.specs.ExtendLaws.{and-true, allZero}
+use Rattle.compilation.specs.Compile.{variables, edgeStep, endStep, stepsOf, probeOf}
 use Rattle.plans.specs.Carry.{firstStep}
 use Rattle.plans.specs.ListLaws.{at-same}
 use Rattle.plans.specs.RunLaws.{step-moved}
 use Rattle.plans.specs.ViewLaws.{edgeNumber, endNumber, start-at, edge-at, end-at, View, is-start, is-edge, is-end, view}
-use Rattle.plans.specs.StepLaws.{State, Scene, action-wf, start-holds, start-apply, edge-holds, edge-apply, end-holds, end-apply}
+use Rattle.compilation.specs.AskLaws.{State, goal-holds, Scene, action-wf, start-holds, start-apply, edge-holds, edge-apply, end-holds, end-apply}
 
 -- k zeros
 abbrev zeros : ℕ → List ℕ
@@ -53,7 +51,7 @@ move t = stepMove (stepsOf t)
 
 -- the goal of the compiled task
 abbrev pub probeGoal : Task → Partial
-probeGoal t = clear (t .goal) (variables t) (suc (length (t .actions)))
+probeGoal t = probeOf t .goal
 
 set-zero : (k a : ℕ) → set (zeros k) a 0 ≡ zeros k
 set-zero zero a = refl
@@ -92,14 +90,11 @@ and-false true = refl
 and-false false = refl
 
 module _ {t : Task} {s : List ℕ} (o : State t s) where
-  goal-holds : (σ : ℕ) (ms : List ℕ) → length ms ≡ length (t .actions) → holds (probeGoal t) (s ++ (σ ∷ ms)) ≡ (holds (t .goal) s && allZero (σ ∷ ms))
-  goal-holds σ ms e = rw (← e) (clear-holds (σ ∷ ms) s (t .goal) (variables t) (inside-length (t .sizes) s (o .inside)) (wf-below (o .wf .goal)))
-
   pub goal-idle : holds (probeGoal t) (idle t s) ≡ holds (t .goal) s
-  goal-idle = rw (goal-holds 0 (quiet t) (quiet-length t), zeros-all (length (t .actions))) (and-true (holds (t .goal) s))
+  goal-idle = rw (goal-holds o 0 (quiet t) (quiet-length t), zeros-all (length (t .actions))) (and-true (holds (t .goal) s))
 
   pub goal-midway : (a at : ℕ) → holds (probeGoal t) (midway t s a at) ≡ false
-  goal-midway a at = goal-holds 1 (busy t a at) (busy-length t a at) ∙ and-false (holds (t .goal) s)
+  goal-midway a at = goal-holds o 1 (busy t a at) (busy-length t a at) ∙ and-false (holds (t .goal) s)
 
 -- ---- each step moves
 
