@@ -2,7 +2,12 @@
 pub mod Number
 pub mod Facts
 pub mod Rounds
+pub mod Additive
+-- The additive heuristic, computed.
+pub mod AdditiveExamples
 -- Laws.
 pub mod NumberLaws
 pub mod FactsLaws
 pub mod RoundsLaws
+pub mod ListedLaws
+pub mod AdditiveLaws

@@ -7,10 +7,11 @@ use mathlib.Core.List.{List, [], _∷_}
 use native.Mathlib.Nat.{le-refl}
 use native.Mathlib.Omega.{arith}
 use lib.Dec.{ltb}
+use lib.ListN.{length, getD}
 use borrow.Author.Tests.{ltb-true, ltb-false}
 use Rattle.facts.specs.Lists.{total, All, Zip, nil, cons}
-use Rattle.estimate.specs.Number.{Number, AtMost, same, WithinCap, rank}
-use Rattle.estimate.specs.NumberLaws.{at-most-refl, lesser-at-most, lesser-within, rank-at-most, rank-injective, same-refl, same-true}
+use Rattle.estimate.specs.Number.{Number, exact, never, lesser, AtMost, same, WithinCap, rank}
+use Rattle.estimate.specs.NumberLaws.{at-most-refl, lesser-never, lesser-zero, lesser-at-most, lesser-within, rank-at-most, rank-injective, same-refl, same-true}
 use Rattle.estimate.specs.Rounds.{lowered, roundOf, sameAll, settle, settled, Leads, stay, go-on, Lowering}
 
 -- ---- the test for the same numbers
@@ -128,6 +129,28 @@ module _ {round : List Number → List Number} (lowering : Lowering round) where
       (go-on (settled-leads round (round numbers))) (settled-fixed (round numbers) (lowering .within numbers h))
 
 -- ---- rounds of offers
+
+pub lowered-length : (numbers offers : List Number) → length (lowered numbers offers) ≡ length numbers
+lowered-length [] offers = refl
+lowered-length (x ∷ numbers) [] = ap suc (lowered-length numbers [])
+lowered-length (x ∷ numbers) (y ∷ offers) = ap suc (lowered-length numbers offers)
+
+-- each number is the lesser of the old one and the offer
+pub lowered-at : (numbers offers : List Number) (k : ℕ) → length offers ≤ length numbers → getD (lowered numbers offers) k never ≡ lesser (getD numbers k never) (getD offers k never)
+lowered-at [] [] k l = refl
+lowered-at [] (y ∷ offers) k l = absurd (omega arith)
+lowered-at (x ∷ numbers) [] zero l = sym (lesser-never x)
+lowered-at (x ∷ numbers) [] (suc k) l = lowered-at numbers [] k (omega arith)
+lowered-at (x ∷ numbers) (y ∷ offers) zero l = refl
+lowered-at (x ∷ numbers) (y ∷ offers) (suc k) l = lowered-at numbers offers k (omega arith)
+
+-- a number 0 stays
+pub lowered-zero : (numbers offers : List Number) (k : ℕ) → getD numbers k never ≡ exact 0 → getD (lowered numbers offers) k never ≡ exact 0
+lowered-zero [] offers k h = h
+lowered-zero (x ∷ numbers) [] zero h = h
+lowered-zero (x ∷ numbers) [] (suc k) h = lowered-zero numbers [] k h
+lowered-zero (x ∷ numbers) (y ∷ offers) zero h = ap (λ a. lesser a y) h ∙ lesser-zero y
+lowered-zero (x ∷ numbers) (y ∷ offers) (suc k) h = lowered-zero numbers offers k h
 
 lowered-within : (numbers offers : List Number) → All WithinCap numbers → All WithinCap offers → All WithinCap (lowered numbers offers)
 lowered-within [] offers h k = tt

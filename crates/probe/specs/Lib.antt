@@ -3,8 +3,10 @@ pub mod Probe
 pub mod ProbeFile
 pub mod Answers
 pub mod InPlace
+pub mod Estimate
 -- Laws.
 pub mod ProbeLaws
 pub mod InPlaceLaws
 pub mod IndexLaws
 pub mod Examples
+pub mod EstimateExamples

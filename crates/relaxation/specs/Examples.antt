@@ -5,10 +5,11 @@ use mathlib.Core.List.{List, [], _∷_}
 use Rattle.facts.specs.Partial.{Partial, empty}
 use Rattle.estimate.specs.Number.{exact, never}
 use Rattle.estimate.specs.Rounds.{settled}
-use Rattle.taskfile.specs.Task.{Edge, Action, Task, walkFrom, walk}
-use Rattle.taskfile.specs.Examples.{P, xy²+z+2}
+use Rattle.estimate.specs.Additive.{additiveRound, lastNumbers, additive}
+use Rattle.task.specs.Task.{Edge, Action, Task, walkFrom, walk}
+use Rattle.task.specs.Examples.{P, xy²+z+2}
 use Rattle.relaxation.specs.Relaxed.{relaxedCost}
-use Rattle.relaxation.specs.Estimate.{leastCost, offersBy, estimateBy, estimate}
+use Rattle.relaxation.specs.Estimate.{leastCost, estimate}
 
 -- ---- xy² + z + 2
 
@@ -26,7 +27,7 @@ relaxed-3 = refl
 
 -- what an estimate opens
 estimating : Unit {0}
-unfolding walk walkFrom settled leastCost offersBy estimateBy
+unfolding walk walkFrom leastCost settled additiveRound lastNumbers additive
 estimating = tt
 
 -- an edge to the terminal of a diagram with one node
