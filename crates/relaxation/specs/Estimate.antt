@@ -6,7 +6,7 @@ use lib.Dec.{eqb}
 use Rattle.facts.specs.Lists.{upFrom}
 use Rattle.estimate.specs.Number.{Number, exact, never, capped, sum, lesser}
 use Rattle.estimate.specs.Additive.{Achiever, additive}
-use Rattle.task.specs.Task.{Node, Action, Task, cost}
+use Rattle.taskfile.specs.Task.{Node, Action, Task, cost}
 use Rattle.relaxation.specs.Least.{leastOver, valuesSum}
 
 -- ---- the least cost of an action by the old numbers

@@ -6,8 +6,8 @@ use Rattle.facts.specs.Partial.{Partial, empty}
 use Rattle.estimate.specs.Number.{exact, never}
 use Rattle.estimate.specs.Rounds.{settled}
 use Rattle.estimate.specs.Additive.{additiveRound, lastNumbers, additive}
-use Rattle.task.specs.Task.{Edge, Action, Task, walkFrom, walk}
-use Rattle.task.specs.Examples.{P, xy²+z+2}
+use Rattle.taskfile.specs.Task.{Edge, Action, Task, walkFrom, walk}
+use Rattle.taskfile.specs.Examples.{P, xy²+z+2}
 use Rattle.relaxation.specs.Relaxed.{relaxedCost}
 use Rattle.relaxation.specs.Estimate.{leastCost, estimate}
 
