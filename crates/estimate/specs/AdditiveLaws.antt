@@ -60,7 +60,7 @@ offered-within n of (a ∷ achievers) v d =
     (offered-by-within (offerOf n of a) (sum-within (sumFrom of 0 n (a .pre)) (a .cost of)) v d) (offered-within n of achievers v d)
 
 -- a round keeps numbers within the cap and raises none
-additive-lowering : (sizes : List ℕ) (achievers : List Achiever) → Lowering (additiveRound sizes achievers)
+pub additive-lowering : (sizes : List ℕ) (achievers : List Achiever) → Lowering (additiveRound sizes achievers)
 unfolding additiveRound
 additive-lowering sizes achievers =
     round-lowering (offersOf sizes achievers)

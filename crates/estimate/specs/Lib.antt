@@ -11,3 +11,6 @@ pub mod FactsLaws
 pub mod RoundsLaws
 pub mod ListedLaws
 pub mod AdditiveLaws
+-- How many rounds there are.
+pub mod FallLaws
+pub mod RoundBound

@@ -64,7 +64,7 @@ module _ {round : List Number → List Number} where
 
 module _ (round : List Number → List Number) where
   -- one round more: it changes nothing, or the others follow
-  by-change : (P : List Number → Type 0) (n : ℕ) (numbers : List Number) → (round numbers ≡ numbers → P numbers)
+  pub by-change : (P : List Number → Type 0) (n : ℕ) (numbers : List Number) → (round numbers ≡ numbers → P numbers)
       → (round numbers ≢ numbers → P (settle round n (round numbers))) → P (settle round (suc n) numbers)
   by-change P n numbers still changed = go (sameAll numbers (round numbers)) refl
     where

@@ -10,3 +10,4 @@ pub mod InPlaceLaws
 pub mod IndexLaws
 pub mod Examples
 pub mod EstimateExamples
+pub mod EstimateRounds

@@ -14,3 +14,4 @@ pub mod LeastByPass
 pub mod RelaxedLaws
 pub mod LeastCostLaws
 pub mod EstimateLaws
+pub mod EstimateRounds
