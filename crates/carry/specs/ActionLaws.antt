@@ -18,8 +18,9 @@ use Rattle.taskfile.specs.WalkInPlace.{nodeCount}
 use Rattle.taskfile.specs.WalkLaws.{edge-there, edge-wf}
 use Rattle.compilation.specs.Compile.{edgeCount}
 use Rattle.taskfile.specs.PartsInPlace.{edgeIn, edgesIn, nodeIn, nodesIn, actionIn}
+use Rattle.taskfile.specs.PartsInPlaceLaws.{edges-at, nodes-long, nodes-at}
 use Rattle.compile.specs.PutLaws.{Cut, Going, going-start, going-room, going-more, going-end}
-use Rattle.compile.specs.InPlaceLaws.{edges-long, nodes-long}
+use Rattle.compile.specs.InPlaceLaws.{edges-long}
 use Rattle.plans.specs.Carry.{pathSteps, actionList}
 use Rattle.plans.specs.ListLaws.{total-take, at-same}
 use Rattle.plans.specs.PathLaws.{steps-at, steps-end}
@@ -31,19 +32,7 @@ use Rattle.carry.specs.AnswerLaws.{entry-room, entry-more}
 byte-inside : (f : List ℕ) (at : ℕ) → 0 < getD f at 0 → at < length f
 byte-inside f at h = elim (decLe (length f) at) [ yes l ↦ absurd (omega (arith, List·getD-eq-default f 0 l)) | no l ↦ lt-of-not-le l ]
 
--- The edge for each value.
-edges-at : (f : List ℕ) (at count d o : ℕ) → d < count → o ≡ at + edgeBytes * d → At (edgesIn f at count) d (edgeIn f o)
-edges-at f at zero d o h e = absurd (omega arith)
-edges-at f at (suc count) zero o h e = let same : at ≡ o = omega arith in rw same here
-edges-at f at (suc count) (suc d) o h e = there (edges-at f (at + edgeBytes) count d o (omega arith) (omega arith))
-
 module _ (f sizes offsets : List ℕ) where
-  -- The node at each index.
-  nodes-at : (from count j k : ℕ) → j < count → k ≡ from + j → At (nodesIn f sizes offsets from count) j (nodeIn f sizes (getD offsets k 0))
-  nodes-at from zero j k h e = absurd (omega arith)
-  nodes-at from (suc count) zero k h e = let same : from ≡ k = omega arith in rw same here
-  nodes-at from (suc count) (suc j) k h e = there (nodes-at (suc from) count j k (omega arith) (omega arith))
-
   -- The edges of the first j nodes and of k more are those of the first j + k.
   edges-between : (from count j k q r : ℕ) → q ≡ from + j → r ≡ j + k → r ≤ count
       → total edgeCount (take j (nodesIn f sizes offsets from count)) + total edgeCount (nodesIn f sizes offsets q k) ≡ total edgeCount (take r (nodesIn f sizes offsets from count))

@@ -15,6 +15,7 @@ use Rattle.probe.specs.Probe.{Step}
 use Rattle.probe.specs.ProbeFile.{writeStep}
 use Rattle.compilation.specs.Compile.{mapFrom, flat, edgeStep, endStep, nodeSteps, actionSteps, edgeCount}
 use Rattle.taskfile.specs.PartsInPlace.{edgeIn, edgesIn, nodeIn, nodesIn, actionIn, actionsIn}
+use Rattle.taskfile.specs.PartsInPlaceLaws.{nodes-long}
 use Rattle.compile.specs.InPlace.{startIn, endIn}
 use Rattle.compile.specs.PutLaws.{Cut, Going, going-start}
 
@@ -120,11 +121,6 @@ module _ (f sizes offsets : List ℕ) (n a count : ℕ) where
   nodes-none j h = rw h
 
 -- ---- the steps of an action
-
--- As many nodes as are asked for.
-pub nodes-long : (f sizes offsets : List ℕ) (j k : ℕ) → length (nodesIn f sizes offsets j k) ≡ k
-nodes-long f sizes offsets j zero = refl
-nodes-long f sizes offsets j (suc k) = ap suc (nodes-long f sizes offsets (suc j) k)
 
 module _ (f sizes : List ℕ) (at : ℕ) (offsets : List ℕ) (n a : ℕ) {count : ℕ} (e : count ≡ nodeCount f at) where
   -- The start, the steps of the nodes, the end.

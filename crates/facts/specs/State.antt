@@ -1,5 +1,6 @@
 -- States handed in: one value for each variable. Document 01, "Running on a task", "Turned down".
 use Prim.Native.Nat.{ℕ, suc, _<_}
+use mathlib.Core.Bool.{Bool}
 use mathlib.Core.List.{List, [], _∷_}
 use lib.Dec.{ltb, eqb}
 use lib.ListN.{length}
@@ -12,16 +13,20 @@ Inside [] (x ∷ s) = ⊥
 Inside (d ∷ sizes) [] = ⊥
 Inside (d ∷ sizes) (x ∷ s) = (x < d) × Inside sizes s
 
--- 4 at the lowest variable whose value is outside its domain; the first variable has the number v
-abbrev pub checkValues : ℕ → List ℕ → List ℕ → Read (Unit {0})
-checkValues v [] s = accepted tt
-checkValues v (d ∷ sizes) [] = accepted tt
-checkValues v (d ∷ sizes) (x ∷ s) = do
-  _ ← check (ltb x d) 4 v
-  checkValues (suc v) sizes s
+-- 4 at the lowest variable whose value, or whatever stands for it, does not pass the test beside its domain size; the first variable has the number v
+abbrev pub checkValues : (ℕ → ℕ → Bool) → ℕ → List ℕ → List ℕ → Read (Unit {0})
+checkValues good v [] s = accepted tt
+checkValues good v (d ∷ sizes) [] = accepted tt
+checkValues good v (d ∷ sizes) (x ∷ s) = do
+  _ ← check (good d x) 4 v
+  checkValues good (suc v) sizes s
 
 -- 12 for the length, then 4 for the values
-unfoldable pub checkState : List ℕ → List ℕ → Read (Unit {0})
-checkState sizes s = do
+abbrev pub checkWith : (ℕ → ℕ → Bool) → List ℕ → List ℕ → Read (Unit {0})
+checkWith good sizes s = do
   _ ← check (eqb (length s) (length sizes)) 12 0
-  checkValues 0 sizes s
+  checkValues good 0 sizes s
+
+-- a state: each value is inside its domain
+unfoldable pub checkState : List ℕ → List ℕ → Read (Unit {0})
+checkState sizes s = checkWith (λ d x. ltb x d) sizes s

@@ -82,8 +82,8 @@ pub fn operator_end(file: &[u8], at: usize, sizes: &[u8]) -> Past
     }
 }
 
-// Whether a map has a bit for no variable, of n.
-fn stray(map: u64, n: usize) -> bool
+// Whether a map has a bit for no variable, of n; or a set one for no value.
+pub fn stray(map: u64, n: usize) -> bool
     ensures { λ r. ⌜ r ≡ leb (2 ^ n) map ⌝ }
 {
     if 64 <= n {

@@ -68,7 +68,7 @@ module _ {C : Type 0} {sum lesser : C → C → C} {of : ℕ → C} (algebra : M
     edgeCost v nd d = sum (of (edgeFor nd d .weight)) (sum (number v d) (from (edgeFor nd d .target)))
 
     -- a node has an edge for each of its values
-    edge-wf : {j : ℕ} {nd : Node} {k d : ℕ} → At (x .nodes) j nd → At (values (nd .var)) k d → WfEdge sizes (x .nodes) (suc j) (nd .var) (edgeFor nd d)
+    pub edge-wf : {j : ℕ} {nd : Node} {k d : ℕ} → At (x .nodes) j nd → At (values (nd .var)) k d → WfEdge sizes (x .nodes) (suc j) (nd .var) (edgeFor nd d)
     edge-wf {nd = nd} {d = d} h a =
         let w = wf .nodes h in
         w .edges (at-getD (nd .edges) d (record { target = 0; weight = 0 }) (omega (arith, w .edge-count, all-at (λ d. d < getD sizes (nd .var) 0) (usable .inside h) a)))

@@ -41,6 +41,11 @@ module _ {C : Type 0} {sum lesser : C → C → C} {of : ℕ → C} (algebra : M
   least-append (x ∷ x′ ∷ xs) (y ∷ ys) h k =
       ap (lesser x) (least-append (x′ ∷ xs) (y ∷ ys) (omega arith) k) ∙ sym (algebra .lesser-assoc x (least (x′ ∷ xs)) (least (y ∷ ys)))
 
+  -- the first two taken together
+  pub least-taken : (a b : C) (cs : List C) → least (a ∷ b ∷ cs) ≡ least (lesser a b ∷ cs)
+  least-taken a b [] = refl
+  least-taken a b (c ∷ cs) = sym (algebra .lesser-assoc a b (least (c ∷ cs)))
+
   -- a summand goes out
   pub least-sum : {A : Type 0} (a : C) (f : A → C) (xs : List A) → 0 < length xs → least (map (λ x. sum a (f x)) xs) ≡ sum a (least (map f xs))
   least-sum a f [] h = absurd (omega arith)

@@ -3,6 +3,7 @@ pub mod Least
 pub mod Relaxed
 pub mod Pass
 pub mod RelaxedPass
+pub mod RelaxedInPlace
 pub mod Estimate
 pub mod EstimatePass
 -- The document's cases, computed.
@@ -12,6 +13,7 @@ pub mod LeastLaws
 pub mod PassLaws
 pub mod LeastByPass
 pub mod RelaxedLaws
+pub mod RelaxedInPlaceLaws
 pub mod LeastCostLaws
 pub mod EstimateLaws
 pub mod EstimateRounds

@@ -1,13 +1,15 @@
 -- Laws of the pass over a diagram: what it finds at a node and at the terminal, and when two passes find the same.
-use mathlib.Core.Path.{_≡_, refl, ap, ap₂, _∙_}
-use Prim.Native.Nat.{ℕ, suc, _+_, _-_, _<_}
+use mathlib.Core.Path.{_≡_, refl, sym, ap, ap₂, _∙_}
+use Prim.Native.Nat.{ℕ, zero, suc, _+_, _-_, _≤_, _<_}
+use native.Mathlib.Decide.{ℕ-discrete}
 use native.Mathlib.Omega.{arith}
 use mathlib.Core.List.{List, [], _∷_, map}
-use lib.ListN.{length, getD}
+use lib.ListN.{length, getD, set}
+use lib.Seq.{getD-set-same, getD-set-other}
 use Rattle.facts.specs.Lists.{At, here, there}
 use Rattle.taskfile.specs.Task.{Node}
 use Rattle.relaxation.specs.LeastLaws.{map-agree}
-use Rattle.relaxation.specs.Pass.{edgeFor, Pass, leastFroms, leastFrom}
+use Rattle.relaxation.specs.Pass.{edgeFor, Pass, byEdge, leastAt, leastFroms, leastFrom, Filled}
 
 -- ---- the ways of a pass
 
@@ -17,7 +19,7 @@ module _ {C : Type 0} (p : Pass C) where
   edgeFrom i nodes nd d = p .across (nd .var) d (edgeFor nd d .weight) (getD (leastFroms p i nodes) (edgeFor nd d .target - i) (p .terminal))
 
   -- the edges of a node that lead above number q
-  abbrev Above : ℕ → Node → Type 0
+  abbrev pub Above : ℕ → Node → Type 0
   Above q nd = (k d : ℕ) → At (p .values (nd .var)) k d → q < edgeFor nd d .target
 
   -- a target above number i is one place further in the list that has node i too
@@ -35,18 +37,51 @@ module _ {C : Type 0} (p : Pass C) where
   froms-node i q (there {x = nd} {y = y} {xs = nodes} h) up e = froms-node (suc i) q h up (omega arith) ∙ least-further i y nodes nd (λ k d a. omega (arith, up k d a))
 
   -- past the last node
-  froms-terminal : (i : ℕ) (nodes : List Node) → getD (leastFroms p i nodes) (length nodes) (p .terminal) ≡ p .terminal
-  froms-terminal i [] = refl
-  froms-terminal i (nd ∷ nodes) = froms-terminal (suc i) nodes
+  froms-past : (i : ℕ) (nodes : List Node) (k : ℕ) → length nodes ≤ k → getD (leastFroms p i nodes) k (p .terminal) ≡ p .terminal
+  froms-past i [] zero l = refl
+  froms-past i [] (suc k) l = refl
+  froms-past i (nd ∷ nodes) zero l = absurd (omega arith)
+  froms-past i (nd ∷ nodes) (suc k) l = froms-past (suc i) nodes k (omega arith)
 
   -- at a node
-  pub pass-node : {nodes : List Node} {j : ℕ} {nd : Node} → At nodes j nd → Above (suc j) nd
-      → leastFrom p nodes (suc j) ≡ p .least (map (λ d. p .across (nd .var) d (edgeFor nd d .weight) (leastFrom p nodes (edgeFor nd d .target))) (p .values (nd .var)))
+  pub pass-node : {nodes : List Node} {j : ℕ} {nd : Node} → At nodes j nd → Above (suc j) nd → leastFrom p nodes (suc j) ≡ leastAt p nd (leastFrom p nodes)
   pass-node {j = j} h up = let e : suc j - 1 ≡ j = omega arith in rw e (froms-node 1 (suc j) h up (omega arith))
+
+  -- past the last node
+  pub pass-past : (nodes : List Node) (k : ℕ) → length nodes < k → leastFrom p nodes k ≡ p .terminal
+  pass-past nodes k l = froms-past 1 nodes (k - 1) (omega arith)
 
   -- at the terminal
   pub pass-terminal : (nodes : List Node) → leastFrom p nodes (suc (length nodes)) ≡ p .terminal
-  pass-terminal nodes = let e : suc (length nodes) - 1 ≡ length nodes = omega arith in rw e (froms-terminal 1 nodes)
+  pass-terminal nodes = pass-past nodes (suc (length nodes)) (omega arith)
+
+  -- ---- a table filled from the last node to the first
+
+  module _ (read : ℕ → C) {nodes : List Node} where
+    -- before the last node's entry, where all that it holds is read as what is at the terminal
+    pub filled-start : {table : List ℕ} {k : ℕ} → ((t : ℕ) → read (getD table t 0) ≡ p .terminal) → length nodes ≤ k → Filled p read nodes k table
+    filled-start same l = record { at = λ t up. same t ∙ sym (pass-past nodes t (omega arith)) }
+
+    -- one entry more
+    pub filled-next : {table : List ℕ} {j e : ℕ} {nd : Node} → Filled p read nodes (suc j) table → At nodes j nd → Above (suc j) nd → suc j < length table
+        → read e ≡ leastAt p nd (λ t. read (getD table t 0)) → Filled p read nodes j (set table (suc j) e)
+    filled-next {table} {j} {e} {nd} full h up l is = record { at = λ t above. go t above (ℕ-discrete t (suc j)) }
+      where
+        -- the entry that is stored
+        stored : read e ≡ leastFrom p nodes (suc j)
+        stored =
+            is
+            ∙ ap (p .least) (map-agree (byEdge p nd (λ t. read (getD table t 0))) (byEdge p nd (leastFrom p nodes)) (p .values (nd .var)) (λ k d a.
+            ap (p .across (nd .var) d (edgeFor nd d .weight)) (full .at (edgeFor nd d .target) (up k d a))))
+            ∙ sym (pass-node h up)
+
+        go : (t : ℕ) → j < t → Dec (t ≡ suc j) → read (getD (set table (suc j) e) t 0) ≡ leastFrom p nodes t
+        go t above (yes same) = rw same (ap read (getD-set-same table (suc j) e 0 l) ∙ stored)
+        go t above (no other) = ap read (getD-set-other table (suc j) t e 0 other) ∙ full .at t (omega arith)
+
+    -- the entry of node 1
+    pub filled-first : {table : List ℕ} {k : ℕ} → k < 1 → Filled p read nodes k table → read (getD table 1 0) ≡ leastFrom p nodes 1
+    filled-first none full = full .at 1 none
 
 -- ---- two passes
 

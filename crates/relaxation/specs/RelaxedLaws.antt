@@ -8,21 +8,21 @@ use lib.ListN.{length, getD}
 use lib.Pow.{pow-mono}
 use Rattle.facts.specs.Lists.{All, nil, cons, At, here, there}
 use Rattle.facts.specs.ListLaws.{at-getD, all-at}
-use Rattle.taskfile.specs.Task.{Action, maxValues, WfAction}
+use Rattle.taskfile.specs.Task.{Node, Action, maxValues, WfAction}
 use Rattle.relaxation.specs.Least.{leastOf, leastOver, valuesSum, MinPlus}
 use Rattle.relaxation.specs.Relaxed.{valuesFrom, valuesIn, SetInside, RelaxedInside, relaxedCost}
-use Rattle.relaxation.specs.PassLaws.{pass-agrees}
-use Rattle.relaxation.specs.LeastByPass.{weighed, Usable, Choices, last, next, least-by-pass}
+use Rattle.relaxation.specs.PassLaws.{Above, pass-agrees}
+use Rattle.relaxation.specs.LeastByPass.{weighed, Usable, Choices, last, next, edge-wf, least-by-pass}
 use Rattle.relaxation.specs.RelaxedPass.{relaxedPass, relaxedByPass}
 
 -- ---- the values of a set
 
 -- the first value by its bit
-abbrev withBit : ℕ → ℕ → List ℕ → List ℕ
+abbrev pub withBit : ℕ → ℕ → List ℕ → List ℕ
 withBit b d more = elim b [ zero ↦ more | suc c ↦ d ∷ more ]
 
 -- the empty set has none
-no-values : (n d : ℕ) → valuesFrom n d 0 ≡ []
+pub no-values : (n d : ℕ) → valuesFrom n d 0 ≡ []
 no-values zero d = refl
 no-values (suc n) d = no-values n (suc d)
 
@@ -56,7 +56,7 @@ module _ {size set : ℕ} (h : SetInside size set) where
 
 -- ---- costs as a min-plus algebra, in which no value has a number of its own
 
-costs : MinPlus _+_ min (λ (n : ℕ). n)
+pub costs : MinPlus _+_ min (λ (n : ℕ). n)
 costs = record {
   sum-comm = add-comm;
   sum-assoc = add-assoc;
@@ -83,17 +83,17 @@ sum-nothing v (d ∷ s) = omega (arith, sum-nothing (suc v) s)
 -- ---- the law
 
 -- the set of a variable
-inside-set : {sizes sets : List ℕ} (v : ℕ) → RelaxedInside sizes sets → v < length sizes → SetInside (getD sizes v 0) (getD sets v 0)
+pub inside-set : {sizes sets : List ℕ} (v : ℕ) → RelaxedInside sizes sets → v < length sizes → SetInside (getD sizes v 0) (getD sets v 0)
 inside-set v nil l = absurd (omega arith)
 inside-set zero (cons r z) l = r
 inside-set (suc v) (cons r z) l = inside-set v z (omega arith)
 
 -- the element at an index, by its number
-at-value : {xs : List ℕ} {k q y : ℕ} → At xs k y → q ≡ k → y ≡ getD xs q 0
-at-value {q = zero} here e = refl
-at-value {q = suc q} here e = absurd (omega arith)
-at-value {q = zero} (there a) e = absurd (omega arith)
-at-value {q = suc q} (there a) e = at-value a (omega arith)
+pub at-value : {A : Type 0} (none : A) {xs : List A} {k q : ℕ} {y : A} → At xs k y → q ≡ k → y ≡ getD xs q none
+at-value none {q = zero} here e = refl
+at-value none {q = suc q} here e = absurd (omega arith)
+at-value none {q = zero} (there a) e = absurd (omega arith)
+at-value none {q = suc q} (there a) e = at-value none a (omega arith)
 
 module _ {sizes : List ℕ} {x : Action} (wf : WfAction sizes x) (small : All (λ d. d ≤ maxValues) sizes) (sets : List ℕ) (inside : RelaxedInside sizes sets) where
   -- the values that the pass goes by
@@ -107,6 +107,10 @@ module _ {sizes : List ℕ} {x : Action} (wf : WfAction sizes x) (small : All (�
         set-some (inside-set (nd .var) inside l) (all-at (λ d. d ≤ maxValues) small (at-getD sizes (nd .var) 0 l));
     inside = λ {j} {nd} h. set-below (inside-set (nd .var) inside (wf .nodes h .var-below));
   }
+
+  -- the edges for values in the sets lead up
+  pub relaxed-above : {j : ℕ} {nd : Node} → At (x .nodes) j nd → Above (relaxedPass sets) (suc j) nd
+  relaxed-above h k d a = edge-wf costs 0 nothing setValues wf usable h a .above
 
   -- the sets of the variables from v on
   choices-from : (v : ℕ) {sizes-left sets-left : List ℕ} → RelaxedInside sizes-left sets-left → All (λ d. d ≤ maxValues) sizes-left → v + length sizes-left ≡ length sizes
@@ -122,7 +126,7 @@ module _ {sizes : List ℕ} {x : Action} (wf : WfAction sizes x) (small : All (�
   unfolding relaxedCost relaxedByPass
   relaxed-by-pass =
       ap (leastOver min 0 (map valuesIn sets)) (fun-ext (λ s. omega (arith, sum-nothing 0 s)))
-      ∙ least-by-pass costs 0 nothing setValues wf usable (choices-from 0 inside small (omega arith) (λ k q set a e. at-value a (omega arith)))
+      ∙ least-by-pass costs 0 nothing setValues wf usable (choices-from 0 inside small (omega arith) (λ k q set a e. at-value 0 a (omega arith)))
       ∙ ap (λ c. x .incoming + c)
       (pass-agrees (weighed _+_ min (λ (n : ℕ). n) 0 nothing setValues) (relaxedPass sets .across) (x .nodes)
       (λ j nd a. fun-ext (λ d. fun-ext (λ w. fun-ext (λ later. omega arith)))) 1)

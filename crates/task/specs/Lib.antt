@@ -1,2 +1,7 @@
 -- Definitions.
 pub mod Answers
+pub mod RelaxedTask
+-- The document's cases, computed.
+pub mod Examples
+-- Laws.
+pub mod RelaxedTaskLaws

@@ -1,4 +1,6 @@
-// Operations on task files: checked, costed and run.
+// Operations on task files: checked, costed, also in relaxed states, and run.
+mod relaxed;
+
 use facts::Checked;
 use facts::Ran;
 use facts::Refusal;
@@ -12,6 +14,7 @@ ghost use Rattle.facts.specs.Answers.{checkedAnswer, ranAnswer};
 ghost use Rattle.taskfile.specs.TaskFile.{checkTask, costTask, runTask};
 ghost use Rattle.taskfile.specs.Index.{Ready};
 ghost use Rattle.task.specs.Answers.{costedAnswer};
+ghost use Rattle.task.specs.RelaxedTask.{relaxedTask};
 
 // What an action costs.
 pub enum Costed {
@@ -62,6 +65,52 @@ fn cost_in(file: &[u8], task: Task, action: usize, state: &[u8]) -> Costed
             let first = offset_within(&firsts, action, Task::MAX_NODES);
             let walked = walk_at(file, starts[action], &nodes[first..], state);
             Costed::Cost(walked.cost)
+        }
+    }
+}
+
+// What an action costs at least over the states of a relaxed state, which has a set of values, one byte, for each variable: the file's refusals, then 11 for
+// the number, then 12 and 4 for the sets.
+pub fn relaxed_cost(file: &[u8], action: usize, sets: &[u8]) -> Costed
+    ensures { λ r. ⌜ costedAnswer r ≡ relaxedTask (now (file .entry)) action (now (sets .entry)) ⌝ }
+{
+    let indexed = index_of(file);
+    let answer = indexed.answer;
+    match answer {
+        Checked::Refused(why) => Costed::Refused(why),
+        Checked::Accepted => {
+            let task = indexed.task;
+            relaxed_in(file, task, action, sets)
+        }
+    }
+}
+
+// The same, of a file that is accepted.
+fn relaxed_in(file: &[u8], task: Task, action: usize, sets: &[u8]) -> Costed
+    requires { ⌜ Ready (now file) task ⌝ }
+    ensures { λ r. ⌜ costedAnswer r ≡ relaxedTask (now (file .entry)) action (now (sets .entry)) ⌝ }
+{
+    let variables = task.variables;
+    let actions = task.actions;
+    if actions <= action {
+        return Costed::Refused(Refusal::Missing(0));
+    }
+    let last = 1 + variables;
+    let sizes = &file[1..last];
+    match relaxed::check_sets(sizes, sets) {
+        Checked::Refused(why) => Costed::Refused(why),
+        Checked::Accepted => {
+            let starts = task.starts;
+            let firsts = task.firsts;
+            let nodes = task.nodes;
+            let first = offset_within(&firsts, action, Task::MAX_NODES);
+            Costed::Cost(relaxed::relaxed_at(
+                file,
+                sizes,
+                starts[action],
+                &nodes[first..],
+                sets,
+            ))
         }
     }
 }

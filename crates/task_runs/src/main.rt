@@ -32,11 +32,31 @@ fn main() {
     show_cost(p, 0, b"\x00\x00");
     show_cost(p, 0, b"\x02");
     show_cost(p, 1, b"\x00\x00");
+    // xy² + z + 2, where x and z have 2 values and y has 3
+    let xyz =
+        b"\x03\x02\x03\x02\x00\x00\x00\x00\x00\x00\x00\x00\x00\x00\x00\x01\x00\x00\x00\x00\x00\x00\x00\x00\x00\x00\x00\x00\x00\x00\x00\x00\x02\x00\x03\x00\x03\x00\x00\x02\x00\x00\x01\x03\x00\x00\x03\x01\x00\x03\x04\x00\x02\x04\x00\x00\x04\x01\x00";
+    show_cost(xyz, 0, b"\x01\x02\x00");
+    show_cost(xyz, 0, b"\x00\x02\x01");
+    show_relaxed(xyz, 0, b"\x03\x06\x01");
+    show_relaxed(xyz, 0, b"\x02\x06\x03");
+    show_relaxed(b"", 1, b"");
+    show_relaxed(xyz, 1, b"");
+    show_relaxed(xyz, 0, b"\x00\x06");
+    show_relaxed(xyz, 0, b"\x03\x00\x04");
+    show_relaxed(xyz, 0, b"\x03\x06\x04");
 }
 
 fn show_cost(file: &[u8], action: usize, state: &[u8]) {
-    match task::cost(file, action, state) {
-        Costed::Cost(cost) => show::number(b"cost ", cost),
+    show_costed(b"cost ", task::cost(file, action, state));
+}
+
+fn show_relaxed(file: &[u8], action: usize, sets: &[u8]) {
+    show_costed(b"relaxed ", task::relaxed_cost(file, action, sets));
+}
+
+fn show_costed(what: &[u8], answer: Costed) {
+    match answer {
+        Costed::Cost(cost) => show::number(what, cost),
         Costed::Refused(why) => show::refusal(why),
     }
 }

@@ -1,7 +1,7 @@
 -- Laws of what the operations answer on an accepted file, by its index.
 use mathlib.Core.Path.{_≡_, refl, sym, ap, _∙_}
 use mathlib.Core.Option.{none}
-use Prim.Native.Nat.{ℕ, zero, suc, _+_, _*_, _≤_, _<_}
+use Prim.Native.Nat.{ℕ, zero, suc, _+_, _*_, _-_, _≤_, _<_, min}
 use native.Mathlib.Omega.{arith}
 use mathlib.Core.List.{List, [], _∷_}
 use lib.ListN.{length, getD, take, drop, getElem?}
@@ -17,12 +17,12 @@ use Rattle.facts.specs.Run.{atMost}
 use Rattle.facts.specs.PartialReadLaws.{partial-read}
 use Rattle.facts.specs.HeadLaws.{head-read}
 use Rattle.taskfile.specs.declared.Task.{Task as Index}
-use Rattle.taskfile.specs.Task.{Action, Task, Walk, maxList}
-use Rattle.taskfile.specs.TaskFile.{readTask, checkTask, actionOf, costTask, runTask}
+use Rattle.taskfile.specs.Task.{Action, Task, Walk, maxNodes, maxList, cost}
+use Rattle.taskfile.specs.TaskFile.{readTask, checkTask, actionOf, askTask, runTask}
 use Rattle.taskfile.specs.TaskReadLaws.{task-read, task-limits}
 use Rattle.taskfile.specs.WalkInPlace.{walkAt, moveAt, runList}
 use Rattle.taskfile.specs.WalkInPlaceLaws.{walk-in-place}
-use Rattle.taskfile.specs.MoveInPlaceLaws.{located-actions, sum-in-place}
+use Rattle.taskfile.specs.MoveInPlaceLaws.{own-nodes, located-actions, sum-in-place}
 use Rattle.taskfile.specs.InPlace.{taskAt}
 use Rattle.taskfile.specs.Index.{Ready}
 
@@ -32,9 +32,10 @@ look-none (x ∷ xs) zero l = absurd (omega arith)
 look-none (x ∷ xs) (suc k) l = look-none xs k (omega arith)
 
 -- what the file's refusal does to the operations
-pub cost-refused : (f : List ℕ) (a : ℕ) (s : List ℕ) {n p : ℕ} → checkTask f ≡ refused n p → costTask f a s ≡ refused n p
-unfolding checkTask costTask
-cost-refused f a s h = rw (not-made (λ (t : Task). tt) (readTask f) h)
+pub ask-refused : (checked : List ℕ → List ℕ → Read (Unit {0})) (answer : Action → List ℕ → ℕ) (f : List ℕ) (a : ℕ) (s : List ℕ) {n p : ℕ} → checkTask f ≡ refused n p
+    → askTask checked answer f a s ≡ refused n p
+unfolding checkTask askTask
+ask-refused checked answer f a s h = rw (not-made (λ (t : Task). tt) (readTask f) h)
 
 pub run-refused : (f list : List ℕ) {n p : ℕ} → checkTask f ≡ refused n p → runTask f list ≡ refused n p
 unfolding checkTask runTask
@@ -81,16 +82,26 @@ module _ (f : List ℕ) {i : Index} (ready : Ready f i) where
         goal = ap (λ (k : ℕ). partialAt f (1 + 2 * k)) (sym n) ∙ sym (g .same);
       }
 
+  -- the domain sizes
+  pub sizes-there : {k : ℕ} → k ≡ i .variables → take k (drop 1 f) ≡ t .sizes
+  sizes-there e = ap (λ (j : ℕ). take j (drop 1 f)) e ∙ starts .sizes
+
+  -- the nodes of action number a, from its first one on
+  pub own-there : (a : ℕ) {k : ℕ} → k ≡ min (getD (i .firsts) a 0) maxNodes → take (maxNodes - k) (drop k (i .nodes)) ≡ drop (getD (i .firsts) a 0) (i .nodes)
+  own-there a {k} e =
+      let first = getD (i .firsts) a 0 in
+      ap (λ (n : ℕ). take (n - k) (drop k (i .nodes))) (sym (ready .nodes-long)) ∙ own-nodes (i .nodes) first (e ∙ ap (min first) (sym (ready .nodes-long)))
+
   -- one start for each action
   pub starts-count : length (take (i .actions) (i .starts)) ≡ length (t .actions)
   starts-count = length-take-le (i .actions) (i .starts) (omega (arith, ready .starts-long, starts .actions)) ∙ sym (there .actions)
 
-  -- ---- costs
+  -- ---- what is asked about an action
 
-  module _ (a : ℕ) (s : List ℕ) where
-    pub cost-missing : i .actions ≤ a → costTask f a s ≡ refused 11 0
-    unfolding costTask actionOf
-    cost-missing l = rw (there .reads, look-none (t .actions) a (omega (arith, there .actions)), actionOf)
+  module _ (checked : List ℕ → List ℕ → Read (Unit {0})) (answer : Action → List ℕ → ℕ) (a : ℕ) (s : List ℕ) where
+    pub ask-missing : i .actions ≤ a → askTask checked answer f a s ≡ refused 11 0
+    unfolding askTask actionOf
+    ask-missing l = rw (there .reads, look-none (t .actions) a (omega (arith, there .actions)), actionOf)
 
     module _ (l : a < i .actions) where
       abbrev none-such : Action
@@ -106,18 +117,23 @@ module _ (f : List ℕ) {i : Index} (ready : Ready f i) where
       unfolding actionOf
       x-is = rw (look x-there, actionOf)
 
-      pub cost-state : {n p k : ℕ} → k ≡ i .variables → checkState (take k (drop 1 f)) s ≡ refused n p → costTask f a s ≡ refused n p
-      unfolding costTask
-      cost-state {n} {p} {k} e h =
-          let same : take k (drop 1 f) ≡ t .sizes = ap (λ (j : ℕ). take j (drop 1 f)) e ∙ starts .sizes in
-          rw (there .reads, x-is, ap (λ (ds : List ℕ). checkState ds s) (sym same) ∙ h)
+      module _ {k : ℕ} (e : k ≡ i .variables) where
+        pub ask-state : {n p : ℕ} → checked (take k (drop 1 f)) s ≡ refused n p → askTask checked answer f a s ≡ refused n p
+        unfolding askTask
+        ask-state h = rw (there .reads, x-is, ap (λ (ds : List ℕ). checked ds s) (sym (sizes-there e)) ∙ h)
 
-      pub cost-is : {k : ℕ} {u : Unit {0}} → k ≡ i .variables → checkState (take k (drop 1 f)) s ≡ accepted u → costTask f a s ≡ accepted (walkAt f (getD (i .starts) a 0) (drop (getD (i .firsts) a 0) (i .nodes)) s .cost)
-      unfolding costTask
-      cost-is {k} e h =
-          let same : take k (drop 1 f) ≡ t .sizes = ap (λ (j : ℕ). take j (drop 1 f)) e ∙ starts .sizes in
-          let ok : checkState (t .sizes) s ≡ accepted _ = ap (λ (ds : List ℕ). checkState ds s) (sym same) ∙ h in
-          rw (there .reads, x-is, ok) (ap (λ (w : Walk). accepted (w .cost)) (sym (walk-in-place f (ready .located .lies t (there .reads) a x x-there) s (state-inside (t .sizes) s ok))))
+        -- the answer is what it is for the action that is there
+        pub ask-is : {u : Unit {0}} {c : ℕ} → checked (take k (drop 1 f)) s ≡ accepted u
+            → ((x : Action) → At (t .actions) a x → checked (t .sizes) s ≡ accepted u → c ≡ answer x s) → askTask checked answer f a s ≡ accepted c
+        unfolding askTask
+        ask-is {u} h is =
+            let ok : checked (t .sizes) s ≡ accepted u = ap (λ (ds : List ℕ). checked ds s) (sym (sizes-there e)) ∙ h in
+            rw (there .reads, x-is, ok) (ap accepted (sym (is x x-there ok)))
+
+  -- the cost of the action that is there, by its walk in place
+  pub walk-cost : (a : ℕ) (s : List ℕ) {u : Unit {0}} {x : Action} → At (t .actions) a x → checkState (t .sizes) s ≡ accepted u
+      → walkAt f (getD (i .starts) a 0) (drop (getD (i .firsts) a 0) (i .nodes)) s .cost ≡ cost x s
+  walk-cost a s {x = x} h ok = ap (λ (w : Walk). w .cost) (walk-in-place f (ready .located .lies t (there .reads) a x h) s (state-inside (t .sizes) s ok))
 
   -- ---- runs
 

@@ -10,7 +10,7 @@ use Rattle.facts.specs.State.{checkState}
 use Rattle.facts.specs.Run.{runFrom, atMost}
 use Rattle.facts.specs.Fields.{readNumber, field, readCount, readValue, readMap, readWeight, readValues, readPartial, readOperator, readSizes, readHead, readEnd}
 use Rattle.taskfile.specs.Task.{Edge, Action, Task, walkFrom, walk, actionMove, taskSum}
-use Rattle.taskfile.specs.TaskFile.{readVariable, readTarget, readEdge, readEdges, readNode, readNodes, readDiagram, readAction, readActions, readTask, checkTask, actionOf, costTask, runTask}
+use Rattle.taskfile.specs.TaskFile.{readVariable, readTarget, readEdge, readEdges, readNode, readNodes, readDiagram, readAction, readActions, readTask, checkTask, actionOf, askTask, costTask, runTask}
 
 -- ---- what an example opens: all definitions that lead from the bytes of a file to an answer
 
@@ -26,8 +26,8 @@ running : Unit {0}
 unfolding walkFrom walk actionMove runFrom taskSum
 running = tt
 
-answering : Unit {0}
-unfolding reading running checkState atMost actionOf checkTask costTask runTask
+unfoldable pub answering : Unit {0}
+unfolding reading running checkState atMost actionOf checkTask askTask runTask
 answering = tt
 
 -- ---- task P

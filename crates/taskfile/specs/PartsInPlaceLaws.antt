@@ -35,12 +35,29 @@ edges-are f at [] h = refl
 edges-are f at (e ∷ edges) h =
     ap₂ (λ (x : Edge) (xs : List Edge). x ∷ xs) (h 0 at e here (omega arith)) (edges-are f (at + edgeBytes) edges (λ d o y a q. h (suc d) o y (there a) (omega arith)))
 
+-- The edge for each value.
+pub edges-at : (f : List ℕ) (at count d o : ℕ) → d < count → o ≡ at + edgeBytes * d → At (edgesIn f at count) d (edgeIn f o)
+edges-at f at zero d o h e = absurd (omega arith)
+edges-at f at (suc count) zero o h e = let same : at ≡ o = omega arith in rw same here
+edges-at f at (suc count) (suc d) o h e = there (edges-at f (at + edgeBytes) count d o (omega arith) (omega arith))
+
 -- Nodes at these offsets.
 nodes-are : (f sizes offsets : List ℕ) (j : ℕ) (nodes : List Node) → ((k q : ℕ) (nd : Node) → At nodes k nd → q ≡ j + k → nodeIn f sizes (getD offsets q 0) ≡ nd)
     → nodesIn f sizes offsets j (length nodes) ≡ nodes
 nodes-are f sizes offsets j [] h = refl
 nodes-are f sizes offsets j (nd ∷ nodes) h =
     ap₂ (λ (x : Node) (xs : List Node). x ∷ xs) (h 0 j nd here (omega arith)) (nodes-are f sizes offsets (suc j) nodes (λ k q y a e. h (suc k) q y (there a) (omega arith)))
+
+-- As many nodes as are asked for.
+pub nodes-long : (f sizes offsets : List ℕ) (j k : ℕ) → length (nodesIn f sizes offsets j k) ≡ k
+nodes-long f sizes offsets j zero = refl
+nodes-long f sizes offsets j (suc k) = ap suc (nodes-long f sizes offsets (suc j) k)
+
+-- The node at each index.
+pub nodes-at : (f sizes offsets : List ℕ) (from count j k : ℕ) → j < count → k ≡ from + j → At (nodesIn f sizes offsets from count) j (nodeIn f sizes (getD offsets k 0))
+nodes-at f sizes offsets from zero j k h e = absurd (omega arith)
+nodes-at f sizes offsets from (suc count) zero k h e = let same : from ≡ k = omega arith in rw same here
+nodes-at f sizes offsets from (suc count) (suc j) k h e = there (nodes-at f sizes offsets (suc from) count j k (omega arith) (omega arith))
 
 -- Actions at these offsets.
 actions-are : (f sizes starts firsts nodes : List ℕ) (a : ℕ) (xs : List Action)
@@ -51,7 +68,7 @@ actions-are f sizes starts firsts nodes a (x ∷ xs) h =
     ap₂ (λ (y : Action) (ys : List Action). y ∷ ys) (h 0 a x here (omega arith)) (actions-are f sizes starts firsts nodes (suc a) xs (λ k q y b e. h (suc k) q y (there b) (omega arith)))
 
 -- There is an element at each index.
-at-some : {A : Type 0} (xs : List A) (k : ℕ) → k < length xs → (x : A) × At xs k x
+pub at-some : {A : Type 0} (xs : List A) (k : ℕ) → k < length xs → (x : A) × At xs k x
 at-some [] k h = absurd (omega arith)
 at-some (x ∷ xs) zero h = (x, here)
 at-some (x ∷ xs) (suc k) h = let a = at-some xs k (omega arith) in (a .0, there (a .1))

@@ -114,13 +114,17 @@ checkTask f = withValue (λ t. tt) (readTask f)
 unfoldable pub actionOf : List Action → ℕ → Read Action
 actionOf actions a = elim (getElem? actions a) [ none ↦ refused 11 0 | some x ↦ accepted x ]
 
--- what action number a costs in the state s: 1 to 6 for the file, 11 for the number, 12 and then 4 for the state
-unfoldable pub costTask : List ℕ → ℕ → List ℕ → Read ℕ
-costTask f a s = do
+-- What is asked about action number a with the state s, or with sets of values: 1 to 6 for the file, 11 for the number, and then what refuses the state.
+unfoldable pub askTask : (List ℕ → List ℕ → Read (Unit {0})) → (Action → List ℕ → ℕ) → List ℕ → ℕ → List ℕ → Read ℕ
+askTask checked answer f a s = do
   t ← readTask f
   x ← actionOf (t .actions) a
-  _ ← checkState (t .sizes) s
-  accepted (cost x s)
+  _ ← checked (t .sizes) s
+  accepted (answer x s)
+
+-- what action number a costs in the state s; 12 and then 4 for the state
+abbrev pub costTask : List ℕ → ℕ → List ℕ → Read ℕ
+costTask f a s = askTask checkState cost f a s
 
 -- the sum of a list of at most 256 actions: 1 to 6 for the file, 8 for the list, then per action 11 before 9, and 10 at the end
 unfoldable pub runTask : List ℕ → List ℕ → Read ℕ

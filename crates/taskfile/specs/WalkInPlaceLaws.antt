@@ -27,6 +27,7 @@ use Rattle.taskfile.specs.WalkLaws.{edge-there, edge-wf, walk-node, walk
 use Rattle.taskfile.specs.DiagramReadLaws.{Diagram-read, diagram-read, node-read, node-edge}
 use Rattle.taskfile.specs.TaskReadLaws.{Action-read, action-read, action-wf}
 use Rattle.taskfile.specs.WalkInPlace.{incomingPlace, nodeCount, edgeOf, edgeFrom, onward, wayUp, wayFrom, walkAt, performBy}
+use Rattle.taskfile.specs.PartsInPlace.{edgeIn}
 
 -- ---- the edge of the node at an offset
 
@@ -38,12 +39,11 @@ module _ (f : List ℕ) (node : ℕ) (s : List ℕ) where
       let place : at ≡ node + (1 + edgeBytes * getD s (getD f node 0) 0) = c ∙ ap (λ (d : ℕ). node + (1 + edgeBytes * d)) (b ∙ ap (λ (v : ℕ). getD s v 0) a) in
       (t ∙ ap (λ (p : ℕ). getD f p 0) place, w ∙ ap (λ (p : ℕ). wordAt f (p + 1)) place)
 
-  -- past the end of the file there is nothing
-  pub edge-none : length f ≤ node → (0 ≡ edgeOf f node s .target) × (0 ≡ edgeOf f node s .weight)
-  unfolding edgeOf
-  edge-none h =
-      let at = node + (1 + edgeBytes * getD s (getD f node 0) 0) in
-      (sym (List·getD-eq-default f 0 (omega arith)), sym (word-cut f (at + 1) (number-ends f 2 (at + 1) (omega arith))))
+-- past the end of the file there is nothing
+pub edge-none : (f : List ℕ) (node d : ℕ) → length f ≤ node → (0 ≡ edgeIn f (node + (1 + edgeBytes * d)) .target) × (0 ≡ edgeIn f (node + (1 + edgeBytes * d)) .weight)
+edge-none f node d h =
+    let at = node + (1 + edgeBytes * d) in
+    (sym (List·getD-eq-default f 0 (omega arith)), sym (word-cut f (at + 1) (number-ends f 2 (at + 1) (omega arith))))
 
 -- ---- the walk through m nodes that begin at these offsets
 
@@ -129,13 +129,17 @@ module _ (f : List ℕ) (at : ℕ) (nodes s : List ℕ) {effect incoming count :
   unfolding nodeCount
   count-same = n ∙ ap (λ (p : ℕ). getD f (p + 2) 0) place-same
 
-  pub cost-is : {weight cost : ℕ} → weight ≡ wordAt f incoming → cost ≡ wayFrom f nodes count s 1 .cost → weight + cost ≡ walkAt f at nodes s .cost
+  pub incoming-same : {weight : ℕ} → weight ≡ wordAt f incoming → weight ≡ wordAt f (incomingPlace f at)
+  incoming-same w = w ∙ ap (wordAt f) place-same
+
+module _ (f : List ℕ) (at : ℕ) (nodes s : List ℕ) {weight count : ℕ} (w : weight ≡ wordAt f (incomingPlace f at)) (n : count ≡ nodeCount f at) where
+  pub cost-is : {cost : ℕ} → cost ≡ wayFrom f nodes count s 1 .cost → weight + cost ≡ walkAt f at nodes s .cost
   unfolding walkAt
-  cost-is w c = rw (← place-same, ← count-same, w, c)
+  cost-is c = rw (← n, w, c)
 
   pub passed-is : {passed : ℕ} → passed ≡ wayFrom f nodes count s 1 .passed → passed ≡ walkAt f at nodes s .passed
   unfolding walkAt
-  passed-is p = rw (← count-same) p
+  passed-is p = rw (← n) p
 
 -- ---- past the end of the file there is nothing
 
@@ -155,9 +159,8 @@ module _ (f : List ℕ) (at : ℕ) (past : length f < at) where
   unfolding nodeCount
   count-none = List·getD-eq-default f 0 (omega (arith, incoming-past))
 
-  pub walk-none : (nodes s : List ℕ) → (0 ≡ walkAt f at nodes s .cost) × (0 ≡ walkAt f at nodes s .passed)
-  unfolding walkAt
-  walk-none nodes s = rw (count-none, word-cut f (incomingPlace f at) (number-ends f 2 (incomingPlace f at) (omega (arith, incoming-past))), way-past f nodes 0 s 1 (omega arith)) (refl, refl)
+  pub weight-none : wordAt f (incomingPlace f at) ≡ 0
+  weight-none = word-cut f (incomingPlace f at) (number-ends f 2 (incomingPlace f at) (omega (arith, incoming-past)))
 
 -- ---- an action x that is read at an offset of an accepted file, and its nodes at the offsets from index `first` on
 

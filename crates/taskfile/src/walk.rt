@@ -4,9 +4,12 @@ use facts::number::offset_at;
 use facts::number::word_at;
 use facts::partial::length_at;
 ghost use mathlib.Core.Path.{_≡_};
-ghost use Prim.Native.Nat.{_*_, _≤_};
+ghost use Prim.Native.Nat.{_+_, _*_, _≤_};
+ghost use Rattle.facts.specs.Fields.{wordAt};
 ghost use Rattle.taskfile.specs.Task.{maxWeight};
-ghost use Rattle.taskfile.specs.WalkInPlace.{edgeOf, wayFrom, walkAt, maxPassed, maxWalk};
+ghost use Rattle.taskfile.specs.TaskFile.{edgeBytes};
+ghost use Rattle.taskfile.specs.PartsInPlace.{edgeIn};
+ghost use Rattle.taskfile.specs.WalkInPlace.{incomingPlace, nodeCount, edgeOf, wayFrom, walkAt, maxPassed, maxWalk};
 
 // A walk: the weights of its edges added up, and the number of nodes that it passes.
 pub struct Walked {
@@ -15,30 +18,48 @@ pub struct Walked {
 }
 
 // An edge: the number of the node that it leads to, and what it costs.
-struct Edge {
-    target: usize,
-    weight: u32,
+pub struct Edge {
+    pub target: usize,
+    pub weight: u32,
 }
 
 impl Edge {
-    const BYTES: usize = 3;
+    pub const BYTES: usize = 3;
+}
+
+// What stands before the nodes of a diagram: the weight of the edge into node 1, and the number of nodes.
+pub struct Diagram {
+    pub incoming: u32,
+    pub count: usize,
 }
 
 // The walk of the action at an offset, whose own nodes begin at the offsets `nodes`.
 pub fn walk_at(file: &[u8], at: usize, nodes: &[usize], state: &[u8]) -> Walked
     ensures { λ r. ⌜ (r .cost ≡ walkAt (now (file .entry)) at (now (nodes .entry)) (now (state .entry)) .cost) × (r .passed ≡ walkAt (now (file .entry)) at (now (nodes .entry)) (now (state .entry)) .passed) × (r .cost ≤ maxWalk) × (r .passed ≤ maxPassed) ⌝ }
 {
+    let diagram = diagram_at(file, at);
+    let way = way_up(file, nodes, diagram.count, state);
+    Walked {
+        cost: diagram.incoming + way.cost,
+        passed: way.passed,
+    }
+}
+
+// What stands before the nodes of the action at an offset: past precondition and effect.
+pub fn diagram_at(file: &[u8], at: usize) -> Diagram
+    ensures { λ r. ⌜ (r .incoming ≡ wordAt (now (file .entry)) (incomingPlace (now (file .entry)) at)) × (r .count ≡ nodeCount (now (file .entry)) at) × (r .incoming ≤ maxWeight) × (r .count ≤ maxPassed) ⌝ }
+{
     if file.len() < at {
-        return Walked { cost: 0, passed: 0 };
+        return Diagram {
+            incoming: 0,
+            count: 0,
+        };
     }
     let effect = at + length_at(file, at);
     let incoming = effect + length_at(file, effect);
-    let count = byte_at(file, incoming + 2) as usize;
-    let way = way_up(file, nodes, count, state);
-    let weight = word_at(file, incoming);
-    Walked {
-        cost: weight + way.cost,
-        passed: way.passed,
+    Diagram {
+        incoming: word_at(file, incoming),
+        count: byte_at(file, incoming + 2) as usize,
     }
 }
 
@@ -66,15 +87,21 @@ fn way_up(file: &[u8], nodes: &[usize], count: usize, state: &[u8]) -> Walked
 fn edge_at(file: &[u8], node: usize, state: &[u8]) -> Edge
     ensures { λ r. ⌜ (r .target ≡ edgeOf (now (file .entry)) node (now (state .entry)) .target) × (r .weight ≡ edgeOf (now (file .entry)) node (now (state .entry)) .weight) × (r .weight ≤ maxWeight) ⌝ }
 {
+    let variable = byte_at(file, node) as usize;
+    edge_for(file, node, byte_at(state, variable))
+}
+
+// The edge, for a value of its variable, of the node at an offset.
+pub fn edge_for(file: &[u8], node: usize, value: u8) -> Edge
+    ensures { λ r. ⌜ (r .target ≡ edgeIn (now (file .entry)) (node + (1 + edgeBytes * value)) .target) × (r .weight ≡ edgeIn (now (file .entry)) (node + (1 + edgeBytes * value)) .weight) × (r .weight ≤ maxWeight) ⌝ }
+{
     if file.len() <= node {
         return Edge {
             target: 0,
             weight: 0,
         };
     }
-    let variable = byte_at(file, node) as usize;
-    let value = byte_at(state, variable) as usize;
-    let at = node + (1 + Edge::BYTES * value);
+    let at = node + (1 + Edge::BYTES * (value as usize));
     Edge {
         target: byte_at(file, at) as usize,
         weight: word_at(file, at + 1),

@@ -2,7 +2,9 @@
 use mathlib.Core.Path.{_≡_, sym, ap, _∙_}
 use denote.Ref.{now}
 use Rattle.facts.specs.Answers.{checkedAnswer}
-use Rattle.taskfile.specs.AnswerLaws.{cost-refused}
+use Rattle.facts.specs.State.{checkState}
+use Rattle.taskfile.specs.Task.{cost}
+use Rattle.taskfile.specs.AnswerLaws.{ask-refused}
 use borrow.Author.Needs.{needs}
 use Rattle.task.proofs.cost.Statement.{statement}
 use Rattle.task.proofs.cost.Tie as tie
@@ -11,7 +13,7 @@ cost-in-requires : tie.Need-cost-in-requires
 cost-in-requires c κs = c .before .before .before .index-of .ensures .ready (sym (c .before .before .before .index-of .ensures .answer) ∙ ap checkedAnswer (c .before .enum-told .given .1))
 
 returns : tie.Need-returns
-returns c = sym (cost-refused _ _ _ (sym (c .before .before .before .index-of .ensures .answer) ∙ ap checkedAnswer (c .before .answer .given .1)))
+returns c = sym (ask-refused checkState cost _ _ _ (sym (c .before .before .before .index-of .ensures .answer) ∙ ap checkedAnswer (c .before .answer .given .1)))
 
 pub cost-spec : {M : Type 1} → statement M
 cost-spec =

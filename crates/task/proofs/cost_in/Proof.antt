@@ -1,14 +1,14 @@
 -- `task::cost_in` meets its contract: the number, the state, and then the walk by the index. Assumes nothing.
-use Prim.Native.Nat.{ℕ, _+_, _-_, min}
+use Prim.Native.Nat.{ℕ, _+_, _-_}
 use mathlib.Core.Path.{_≡_, sym, ap, _∙_}
 use mathlib.Core.List.{List}
 use denote.Ref.{now}
-use lib.ListN.{getD, take, drop}
-use Rattle.facts.specs.Read.{accepted}
+use lib.ListN.{getD}
 use Rattle.facts.specs.Answers.{checkedAnswer}
+use Rattle.facts.specs.State.{checkState}
+use Rattle.taskfile.specs.Task.{cost}
 use Rattle.taskfile.specs.WalkInPlace.{walkAt}
-use Rattle.taskfile.specs.MoveInPlaceLaws.{own-nodes}
-use Rattle.taskfile.specs.AnswerLaws.{starts, cost-missing, cost-state, cost-is}
+use Rattle.taskfile.specs.AnswerLaws.{starts, own-there, ask-missing, ask-state, ask-is, walk-cost}
 use borrow.Author.Needs.{needs}
 use native.Mathlib.Omega.{arith}
 use Rattle.task.proofs.cost_in.Statement.{statement}
@@ -18,12 +18,8 @@ use Rattle.task.proofs.cost_in.Tie as tie
 same : (c : tie.Start) → 1 + c .args .task .variables - 1 ≡ c .args .task .variables
 same c = omega arith
 
--- the nodes from the action's first on
-own : (c : tie.After-offset-within) → let t = c .before .before .before .before .before .before .before .before .before .before .before .before .args .task in take (64 - c .offset-within .result) (drop (c .offset-within .result) (t .nodes)) ≡ drop (getD (t .firsts) (c .before .before .before .before .before .before .before .before .before .before .before .before .args .action) 0) (t .nodes)
-own c = let t = c .before .before .before .before .before .before .before .before .before .before .before .before .args .task in ap (λ (k : ℕ). take (k - c .offset-within .result) (drop (c .offset-within .result) (t .nodes))) (sym (c .before .before .before .before .before .before .before .before .before .before .before .before .pre .nodes-long)) ∙ own-nodes (t .nodes) (getD (t .firsts) (c .before .before .before .before .before .before .before .before .before .before .before .before .args .action) 0) (c .offset-within .ensures ∙ ap (λ (k : ℕ). min (getD (t .firsts) (c .before .before .before .before .before .before .before .before .before .before .before .before .args .action) 0) k) (sym (c .before .before .before .before .before .before .before .before .before .before .before .before .pre .nodes-long)))
-
 returns : tie.Need-returns
-returns c = let s = c .before .before .before in sym (cost-missing (now (s .args .file)) (s .pre) (s .args .action) (now (s .args .state)) (c .if1 .taken))
+returns c = let s = c .before .before .before in sym (ask-missing (now (s .args .file)) (s .pre) checkState cost (s .args .action) (now (s .args .state)) (c .if1 .taken))
 
 add-last : tie.Need-add-last
 add-last c = omega (arith, starts _ (c .before .before .before .pre) .fits)
@@ -40,13 +36,17 @@ array-read-walk-at c = omega (arith, c .before .before .before .before .before .
 returns-2 : tie.Need-returns-2
 returns-2 c =
     let s = c .before .before .before .before .before .before .before .before in
-    sym (cost-state (now (s .args .file)) (s .pre) (s .args .action) (now (s .args .state)) (c .before .before .before .before .before .if1 .left) (same s) (sym (c .before .before .before .check-state .ensures) ∙ ap checkedAnswer (c .before .why .given .1)))
+    sym (ask-state (now (s .args .file)) (s .pre) checkState cost (s .args .action) (now (s .args .state)) (c .before .before .before .before .before .if1 .left) (same s) (sym (c .before .before .before .check-state .ensures) ∙ ap checkedAnswer (c .before .why .given .1)))
 
 returns-3 : tie.Need-returns-3
 returns-3 c =
     let s = c .before .before .before .before .before .before .before .before .before .before .before .before .before .before .before in
-    ap accepted (c .walk-at .ensures .0 ∙ ap (λ (ns : List ℕ). walkAt (now (s .args .file)) (getD (s .args .task .starts) (s .args .action) 0) ns (now (s .args .state)) .cost) (own (c .before .before .before)))
-    ∙ sym (cost-is (now (s .args .file)) (s .pre) (s .args .action) (now (s .args .state)) (c .before .before .before .before .before .before .before .before .before .before .before .before .if1 .left) (same s) (sym (c .before .before .before .before .before .before .before .before .before .before .check-state .ensures) ∙ ap checkedAnswer (c .before .before .before .before .before .before .before .before .enum-told .given .1)))
+    let f = now (s .args .file) in
+    let b = c .before .before .before .before .before .before .before .before .before .before in
+    let own-walk = ap (λ (ns : List ℕ). walkAt f (getD (s .args .task .starts) (s .args .action) 0) ns (now (s .args .state)) .cost) (own-there f (s .pre) (s .args .action) (c .before .before .before .offset-within .ensures)) in
+    sym (ask-is f (s .pre) checkState cost (s .args .action) (now (s .args .state)) (b .before .before .if1 .left) (same s)
+    (sym (b .check-state .ensures) ∙ ap checkedAnswer (c .before .before .before .before .before .before .before .before .enum-told .given .1))
+    (λ x h ok. c .walk-at .ensures .0 ∙ own-walk ∙ walk-cost f (s .pre) (s .args .action) (now (s .args .state)) h ok))
 
 pub cost-in-spec : {M : Type 1} → statement M
 cost-in-spec =
