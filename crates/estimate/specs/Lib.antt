@@ -3,6 +3,8 @@ pub mod Number
 pub mod Facts
 pub mod Rounds
 pub mod Additive
+pub mod Ranks
+pub mod Answers
 -- The additive heuristic, computed.
 pub mod AdditiveExamples
 -- Laws.
@@ -11,6 +13,8 @@ pub mod FactsLaws
 pub mod RoundsLaws
 pub mod ListedLaws
 pub mod AdditiveLaws
+pub mod RanksLaws
+pub mod OfferLaws
 -- How many rounds there are.
 pub mod FallLaws
 pub mod RoundBound

@@ -17,6 +17,12 @@ use Rattle.estimate.specs.Number.{Number, never, sum, WithinCap}
 use Rattle.estimate.specs.NumberLaws.{sum-within}
 use Rattle.estimate.specs.Additive.{factCount, listedFrom, listed, factNumber, hasValue, has, withNumber, sumFrom}
 
+-- only variables have values
+pub fact-variable : (sizes : List ℕ) (v d : ℕ) → d < getD sizes v 0 → v < length sizes
+fact-variable [] v d l = absurd (omega arith)
+fact-variable (n ∷ sizes) zero d l = omega arith
+fact-variable (n ∷ sizes) (suc v) d l = omega (arith, fact-variable sizes v d l)
+
 -- ---- the list
 
 -- the numbers of one variable

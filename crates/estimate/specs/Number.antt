@@ -72,3 +72,7 @@ abbrev pub rank : Number → ℕ
 rank never = largest + 2
 rank over = largest + 1
 rank (exact n) = n
+
+-- the number of a rank
+abbrev pub ranked : ℕ → Number
+ranked n = elim (leb n (rank over)) [ true ↦ capped n | false ↦ never ]

@@ -6,7 +6,7 @@ use native.Mathlib.Nat.{add-comm}
 use native.Mathlib.Omega.{arith}
 use lib.Dec.{leb, eqb}
 use borrow.Author.Tests.{leb-true, leb-false, le-leb, lt-leb, eqb-true, eq-eqb}
-use Rattle.estimate.specs.Number.{Number, exact, over, never, largest, capped, sum, lesser, AtMost, same, WithinCap, rank}
+use Rattle.estimate.specs.Number.{Number, exact, over, never, largest, capped, sum, lesser, AtMost, same, WithinCap, rank, ranked}
 
 -- ---- the cap
 
@@ -179,10 +179,6 @@ rank-lesser (exact x) = elim [ never ↦ λ h k. omega arith | over ↦ λ h k. 
 pub rank-at-most : {a b : Number} → WithinCap a → WithinCap b → AtMost a b → rank a ≤ rank b
 rank-at-most {a} {b} h k l = omega (arith, rank-lesser a b h k, ap rank (l .is-lesser))
 
--- the number of a rank
-abbrev ranked : ℕ → Number
-ranked n = elim (leb n (rank over)) [ true ↦ capped n | false ↦ never ]
-
 ranked-rank : (a : Number) → WithinCap a → ranked (rank a) ≡ a
 ranked-rank never h = refl
 ranked-rank over h = refl
@@ -190,6 +186,43 @@ ranked-rank (exact n) h = rw (le-leb n (rank over) (omega arith), ranked) (cappe
 
 pub rank-injective : {a b : Number} → WithinCap a → WithinCap b → rank a ≡ rank b → a ≡ b
 rank-injective {a} {b} h k e = sym (ranked-rank a h) ∙ ap ranked e ∙ ranked-rank b k
+
+-- ---- the number of a rank
+
+pub ranked-exact : (n : ℕ) → n ≤ largest → ranked n ≡ exact n
+ranked-exact n h = ranked-rank (exact n) h
+
+pub ranked-over : (n : ℕ) → n ≡ rank over → ranked n ≡ over
+ranked-over n e = ap ranked e
+
+pub ranked-never : (n : ℕ) → rank never ≤ n → ranked n ≡ never
+ranked-never n h = rw (lt-leb n (rank over) (omega arith), ranked)
+
+-- a rank is of an exact number, of over, or of never
+by-rank : (P : Number → Type 0) (n : ℕ) → (n ≤ largest → P (exact n)) → (n ≡ rank over → P over) → (rank never ≤ n → P never) → P (ranked n)
+by-rank P n exactly just above = go (leb n (rank over)) refl
+  where
+    go : (t : Bool) → leb n (rank over) ≡ t → P (elim t [ true ↦ capped n | false ↦ never ])
+    go true e = by-cap P n exactly (λ h. just (omega (arith, leb-true n (rank over) e)))
+    go false e = above (omega (arith, leb-false n (rank over) e))
+
+-- the ranks above that of never are of never too
+rank-ranked : (n : ℕ) → rank (ranked n) ≡ min n (rank never)
+rank-ranked n = by-rank (λ a. rank a ≡ min n (rank never)) n (λ h. omega arith) (λ h. omega arith) (λ h. omega arith)
+
+pub ranked-within : (n : ℕ) → WithinCap (ranked n)
+ranked-within n = by-rank WithinCap n (λ h. h) (λ h. tt) (λ h. tt)
+
+-- the lesser rank is of the lesser number
+pub ranked-min : (m n : ℕ) → ranked (min m n) ≡ lesser (ranked m) (ranked n)
+ranked-min m n =
+    let both = lesser-within (ranked m) (ranked n) (ranked-within m) (ranked-within n) in
+    let low = rank-lesser (ranked m) (ranked n) (ranked-within m) (ranked-within n) in
+    rank-injective (ranked-within (min m n)) both (omega (arith, rank-ranked (min m n), rank-ranked m, rank-ranked n, low))
+
+-- ranks of which one is below that of never are of the same number only if they are the same
+pub ranked-other : (m n : ℕ) → (m ≡ n → ⊥) → min m n < rank never → ranked m ≡ ranked n → ⊥
+ranked-other m n other l e = other (omega (arith, rank-ranked m, rank-ranked n, ap rank e))
 
 -- ---- the test for the same number
 
@@ -202,6 +235,13 @@ pub same-true : (a b : Number) → same a b ≡ true → a ≡ b
 same-true never = elim [ never ↦ λ h. refl | over ↦ λ h. absurd (false≢true h) | exact y ↦ λ h. absurd (false≢true h) ]
 same-true over = elim [ never ↦ λ h. absurd (false≢true h) | over ↦ λ h. refl | exact y ↦ λ h. absurd (false≢true h) ]
 same-true (exact x) = elim [ never ↦ λ h. absurd (false≢true h) | over ↦ λ h. absurd (false≢true h) | exact y ↦ λ h. ap exact (eqb-true x y h) ]
+
+pub same-false : (a b : Number) → (a ≡ b → ⊥) → same a b ≡ false
+same-false a b other = go (same a b) refl
+  where
+    go : (t : Bool) → same a b ≡ t → t ≡ false
+    go true e = absurd (other (same-true a b e))
+    go false e = refl
 
 -- ---- the ways in which the code can go
 

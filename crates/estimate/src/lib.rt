@@ -1,4 +1,8 @@
 // The numbers of the additive heuristic, document 01's estimate, and the array that has one for every fact. What rounds over them come to is in specs/.
+pub mod offers;
+pub mod ranks;
+
+use facts::Refusal;
 ghost use mathlib.Core.Path.{_≡_};
 ghost use Rattle.estimate.specs.Number.{number, sum, lesser, same};
 ghost use Rattle.estimate.specs.Facts.{HasNumbers, startNumber};
@@ -8,6 +12,12 @@ pub enum Est {
     Never,
     Over,
     Exact(u32),
+}
+
+// What an estimate answers.
+pub enum Estimated {
+    Number(Est),
+    Refused(Refusal),
 }
 
 // The largest exact number; above it a number is over.

@@ -1,12 +1,13 @@
 -- Laws of the bits of a map: the lowest standing one, those below a variable, those past the variables.
 use mathlib.Core.Path.{_≡_, refl, ap, _∙_}
 use Prim.Native.Nat.{ℕ, zero, suc, _+_, _*_, _/_, _%_, _^_, _≤_, _<_}
-use native.Mathlib.Nat.{pow-suc, mul-assoc, mul-le-mul-right, mod-lt, div-eq-of-lt, lt-of-not-le}
+use native.Mathlib.Nat.{mul-le-mul-right, mod-lt, div-eq-of-lt, lt-of-not-le}
 use native.Mathlib.Decide.{decLe}
 use native.Mathlib.Omega.{arith}
 use lib.Count.{trailingZeros, under}
 use lib.Pow.{split, pow-pos, pow-mono, shr-shr}
 use Rattle.facts.specs.Bits.{Lowest}
+use Rattle.facts.specs.BitsLaws.{doubled}
 
 -- a map has no bit from n up exactly if nothing is left of it after n halvings
 pub no-stray : (map n : ℕ) → map / 2 ^ n ≡ 0 → map < 2 ^ n
@@ -16,9 +17,6 @@ pub some-stray : (map n : ℕ) → (map / 2 ^ n ≡ 0 → ⊥) → 2 ^ n ≤ map
 some-stray map n h = elim (decLe (2 ^ n) map) [ yes k ↦ k | no k ↦ absurd (h (div-eq-of-lt (lt-of-not-le k))) ]
 
 -- ---- the lowest standing bit
-
-doubled : (m z : ℕ) → m * 2 ^ suc z ≡ 2 * (m * 2 ^ z)
-doubled m z = rw (pow-suc 2 z, ← mul-assoc m (2 ^ z) 2) (omega arith)
 
 lowest-even : (m z above : ℕ) → m % 2 ≡ 0 → Lowest (m / 2) z above → Lowest m (suc z) above
 lowest-even m z above e l = record { bits = omega (arith, l .bits, doubled (2 * above + 1) z) }
@@ -40,13 +38,3 @@ pub lowest-within : {m z a : ℕ} (k : ℕ) → Lowest m z a → m < 2 ^ k → z
 lowest-within {m} {z} {a} k l h =
     let low : 1 * 2 ^ z ≤ (2 * a + 1) * 2 ^ z = mul-le-mul-right (2 ^ z) (omega arith) in
     lt-of-not-le (λ g. let most = pow-mono g in absurd (omega (arith, l .bits)))
-
--- what does not change by a bit that does not stand does not change by all zeros below a bit
-pub skip : {X : Type 0} (F : ℕ → ℕ → X) → ((m v : ℕ) → F (2 * m) v ≡ F m (suc v)) → (z m v : ℕ) → F (m * 2 ^ z) v ≡ F m (v + z)
-skip F h zero m v = ap₂′ (omega arith) (omega arith)
-  where
-    ap₂′ : {a b c d : ℕ} → a ≡ b → c ≡ d → F a c ≡ F b d
-    ap₂′ p q = rw (p, q)
-skip F h (suc z) m v =
-    let next : v + suc z ≡ suc v + z = omega arith in
-    rw (doubled m z, next) (h (m * 2 ^ z) v ∙ skip F h z m (suc v))

@@ -14,29 +14,10 @@ use borrow.Author.Tests.{eq-eqb, ne-eqb}
 use Rattle.facts.specs.Read.{Read, accepted, refused, _>>=_}
 use Rattle.facts.specs.Partial.{Partial, agrees, after, rest, above, holds, apply, empty, standingAt}
 use Rattle.facts.specs.Bits.{Lowest}
+use Rattle.facts.specs.BitsLaws.{even-bit, even-half, odd-bit, odd-half, skip, first-even, first-odd, first-cut, above-even, above-odd, no-bits, cut-values}
 use Rattle.facts.specs.PartialLaws.{holds-empty, apply-empty}
 use Rattle.facts.specs.Fields.{standing, nextOf, readValue, readValues}
 use Rattle.facts.specs.EachLaws.{next-each}
-use Rattle.facts.proofs.Bits.{skip}
-
--- a map whose lowest bit does not stand, and one whose lowest bit stands
-even-bit : (m : ℕ) → (2 * m) % 2 ≡ 0
-even-bit m = omega arith
-
-even-half : (m : ℕ) → 2 * m / 2 ≡ m
-even-half m = omega arith
-
-odd-bit : (m : ℕ) → (2 * m + 1) % 2 ≡ 1
-odd-bit m = omega arith
-
-odd-half : (m : ℕ) → (2 * m + 1) / 2 ≡ m
-odd-half m = omega arith
-
-ones-even : (m : ℕ) → ones (2 * m) ≡ ones m
-ones-even m = ones-step (2 * m) ∙ ap₂ (λ (b h : ℕ). b + ones h) (even-bit m) (even-half m) ∙ omega arith
-
-ones-odd : (m : ℕ) → ones (2 * m + 1) ≡ suc (ones m)
-ones-odd m = ones-step (2 * m + 1) ∙ ap₂ (λ (b h : ℕ). b + ones h) (odd-bit m) (odd-half m) ∙ omega arith
 
 drop-one : (v : ℕ) (xs : List ℕ) → drop 1 (drop v xs) ≡ drop (suc v) xs
 drop-one v xs = drop-drop 1 v xs ∙ rw (add-one v)
@@ -90,57 +71,22 @@ values-done f sizes v at e = rw (e, standing-none (drop v sizes))
 -- ---- a partial state in a state
 
 module _ (f : List ℕ) (m at : ℕ) where
-  above-even : above (standingAt f (2 * m) at) ≡ standingAt f m at
-  unfolding standingAt
-  above-even = rw (even-bit m, even-half m, ones-even m)
-
-  above-odd : at < length f → above (standingAt f (2 * m + 1) at) ≡ standingAt f m (at + 1)
-  unfolding standingAt
-  above-odd l = rw (odd-bit m, odd-half m, ones-odd m, add-one at, drop-cons f at 0 l)
-
-  -- the first variable
-  abbrev Agrees : ℕ → ℕ → Bool
-  Agrees map x = agrees (standingAt f map at .map % 2) (standingAt f map at .values) x
-
-  abbrev After : ℕ → ℕ → ℕ
-  After map x = after (standingAt f map at .map % 2) (standingAt f map at .values) x
-
-  agrees-even : (x : ℕ) → Agrees (2 * m) x ≡ true
-  unfolding standingAt
-  agrees-even x = rw (even-bit m)
-
-  agrees-odd : at < length f → (x : ℕ) → Agrees (2 * m + 1) x ≡ eqb (getD f at 0) x
-  unfolding standingAt
-  agrees-odd l x = rw (odd-bit m, ones-odd m, drop-cons f at 0 l)
-
-  agrees-cut : length f ≤ at → (x : ℕ) → Agrees (2 * m + 1) x ≡ false
-  unfolding standingAt
-  agrees-cut l x = rw (odd-bit m, drop-of-length-le f l, take-nil (ones (2 * m + 1)))
-
-  after-even : (x : ℕ) → After (2 * m) x ≡ x
-  unfolding standingAt
-  after-even x = rw (even-bit m)
-
-  after-odd : at < length f → (x : ℕ) → After (2 * m + 1) x ≡ getD f at 0
-  unfolding standingAt
-  after-odd l x = rw (odd-bit m, ones-odd m, drop-cons f at 0 l)
-
   holds-even : (xs : List ℕ) → holds (standingAt f (2 * m) at) xs ≡ holds (standingAt f m at) (drop 1 xs)
   holds-even [] = refl
-  holds-even (x ∷ xs) = ap₂ _&&_ (agrees-even x) (ap (λ (p : Partial). holds p xs) above-even)
+  holds-even (x ∷ xs) = ap₂ _&&_ (first-even (λ b values. agrees b values x) f m at) (ap (λ (p : Partial). holds p xs) (above-even f m at))
 
   holds-odd : at < length f → (x : ℕ) (xs : List ℕ) → holds (standingAt f (2 * m + 1) at) (x ∷ xs) ≡ (eqb (getD f at 0) x && holds (standingAt f m (at + 1)) xs)
-  holds-odd l x xs = ap₂ _&&_ (agrees-odd l x) (ap (λ (p : Partial). holds p xs) (above-odd l))
+  holds-odd l x xs = ap₂ _&&_ (first-odd (λ b values. agrees b values x) f m at l) (ap (λ (p : Partial). holds p xs) (above-odd f m at l))
 
   holds-cut : length f ≤ at → (x : ℕ) (xs : List ℕ) → holds (standingAt f (2 * m + 1) at) (x ∷ xs) ≡ false
-  holds-cut l x xs = ap (λ (b : Bool). b && holds (above (standingAt f (2 * m + 1) at)) xs) (agrees-cut l x)
+  holds-cut l x xs = ap (λ (b : Bool). b && holds (above (standingAt f (2 * m + 1) at)) xs) (first-cut (λ b values. agrees b values x) f m at l)
 
   apply-even : (xs : List ℕ) → apply (standingAt f (2 * m) at) xs ≡ take 1 xs ++ apply (standingAt f m at) (drop 1 xs)
   apply-even [] = refl
-  apply-even (x ∷ xs) = ap₂ (λ (y : ℕ) (ys : List ℕ). y ∷ ys) (after-even x) (ap (λ (p : Partial). apply p xs) above-even)
+  apply-even (x ∷ xs) = ap₂ (λ (y : ℕ) (ys : List ℕ). y ∷ ys) (first-even (λ b values. after b values x) f m at) (ap (λ (p : Partial). apply p xs) (above-even f m at))
 
   apply-odd : at < length f → (x : ℕ) (xs : List ℕ) → apply (standingAt f (2 * m + 1) at) (x ∷ xs) ≡ getD f at 0 ∷ apply (standingAt f m (at + 1)) xs
-  apply-odd l x xs = ap₂ (λ (y : ℕ) (ys : List ℕ). y ∷ ys) (after-odd l x) (ap (λ (p : Partial). apply p xs) (above-odd l))
+  apply-odd l x xs = ap₂ (λ (y : ℕ) (ys : List ℕ). y ∷ ys) (first-odd (λ b values. after b values x) f m at l) (ap (λ (p : Partial). apply p xs) (above-odd f m at l))
 
 no-bytes : (m : ℕ) (xs : List ℕ) → apply (record { map = m; values = [] }) xs ≡ xs
 no-bytes m [] = refl
@@ -156,11 +102,7 @@ no-bytes m (x ∷ xs) = ap₂ (λ (y : ℕ) (ys : List ℕ). y ∷ ys) (one (m %
 
 apply-cut : (f : List ℕ) (m at : ℕ) (xs : List ℕ) → length f ≤ at → apply (standingAt f m at) xs ≡ xs
 unfolding standingAt
-apply-cut f m at xs l = rw (drop-of-length-le f l, take-nil (ones m)) (no-bytes m xs)
-
-no-bits : (f : List ℕ) (at : ℕ) → standingAt f 0 at ≡ empty
-unfolding standingAt ones
-no-bits f at = refl
+apply-cut f m at xs l = rw (cut-values f m at l) (no-bytes m xs)
 
 pub holds-done : (f : List ℕ) (at : ℕ) (xs : List ℕ) {m : ℕ} → m ≡ 0 → holds (standingAt f m at) xs ≡ true
 holds-done f at xs e = rw (e, no-bits f at) (holds-empty xs)

@@ -10,7 +10,7 @@ use lib.ListN.{length, getD, set}
 use lib.Seq.{getD-set-same, getD-set-other}
 use Rattle.facts.specs.Read.{Read, accepted, refused}
 use Rattle.facts.specs.Bytes.{numberAt}
-use Rattle.facts.specs.Partial.{Partial, partialBytes, standingAt, partialAt, pastPartial}
+use Rattle.facts.specs.Partial.{Partial, empty, partialBytes, standingAt, partialAt, pastPartial}
 use Rattle.facts.specs.PartialLaws.{partial-here, partial-cut}
 use Rattle.facts.specs.Fields.{readNumber, wordAt}
 use Rattle.facts.specs.FieldLaws.{number-reads, number-read, number-short}
@@ -27,13 +27,19 @@ module _ (f : List ℕ) (at : ℕ) where
   pub word-is : {w : ℕ} → at + 2 ≤ length f → numberAt 2 f at ≡ w → wordAt f at ≡ w
   word-is h e = word-here (number-reads f 2 at h ∙ ap accepted e)
 
+  pub standing-read : {map : ℕ} → readNumber f 8 at ≡ accepted map → partialAt f at ≡ standingAt f map (at + 8)
+  standing-read h = let n = number-read f 8 at h in partial-here f at (n .fits) ∙ ap (λ (map : ℕ). standingAt f map (at + 8)) (n .value)
+
+  pub empty-read : {n p : ℕ} → readNumber f 8 at ≡ refused n p → partialAt f at ≡ empty
+  empty-read h = partial-cut f at (number-short f 8 at h)
+
   pub bytes-here : {map : ℕ} → readNumber f 8 at ≡ accepted map → partialBytes (partialAt f at) ≡ 8 + ones map
   unfolding standingAt
-  bytes-here h = let n = number-read f 8 at h in rw (partial-here f at (n .fits), n .value)
+  bytes-here h = rw (standing-read h)
 
   pub bytes-cut : {n p : ℕ} → readNumber f 8 at ≡ refused n p → partialBytes (partialAt f at) ≡ 8
   unfolding ones
-  bytes-cut h = rw (partial-cut f at (number-short f 8 at h))
+  bytes-cut h = rw (empty-read h)
 
   pub past-is : {n : ℕ} → n ≡ partialBytes (partialAt f at) → at + n ≡ pastPartial f at
   unfolding pastPartial

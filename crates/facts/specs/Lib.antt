@@ -16,6 +16,7 @@ pub mod ReadLaws
 pub mod ListLaws
 pub mod BytesLaws
 pub mod PartialLaws
+pub mod BitsLaws
 pub mod EachLaws
 pub mod FieldLaws
 pub mod PartialReadLaws

@@ -5,12 +5,12 @@ use crate::Refusal;
 use crate::number::read_map;
 use crate::number::read_word;
 ghost use mathlib.Core.Path.{_≡_};
-ghost use Prim.Native.Nat.{_+_, _%_, _^_, _≤_, _<_};
+ghost use Prim.Native.Nat.{_+_, _%_, _^_, _≤_};
 ghost use lib.Count.{ones};
 ghost use lib.Dec.{leb};
 ghost use lib.ListN.{length};
 ghost use Rattle.facts.specs.Answers.{pastAnswer};
-ghost use Rattle.facts.specs.Bits.{Lowest};
+ghost use Rattle.facts.specs.Bits.{LowestBit};
 ghost use Rattle.facts.specs.Partial.{holds, apply, partialBytes, valuePlace, standingAt, partialAt};
 ghost use Rattle.facts.specs.Fields.{nextOf, standing, readValue, readValues, readPartial, readOperator};
 
@@ -96,15 +96,18 @@ pub fn stray(map: u64, n: usize) -> bool
 }
 
 // The lowest standing bit of a map: how many bits lie below it, and the bits above it.
-struct Bit {
-    zeros: usize,
-    above: u64,
+pub struct Bit {
+    pub zeros: usize,
+    pub above: u64,
 }
 
-fn lowest_bit(map: u64) -> Bit
-    requires { ⌜ 0 < map ⌝ }
-    ensures { λ r. ⌜ Lowest map (r .zeros) (r .above) × (r .zeros ≤ 64) ⌝ }
+// The lowest standing bit; below it there are 64 where none stands.
+pub fn lowest_bit(map: u64) -> Bit
+    ensures { λ r. ⌜ LowestBit map (r .zeros) (r .above) ⌝ }
 {
+    if map == 0 {
+        return Bit { zeros: 64, above: 0 };
+    }
     let zeros = u64::trailing_zeros(map);
     Bit {
         zeros: zeros as usize,

@@ -1,13 +1,13 @@
 -- `facts::partial::apply_at` meets its contract: the values follow the map, and a cut map says nothing. Assumes nothing.
-use Prim.Native.Nat.{ℕ, _+_}
 use mathlib.Core.Path.{_≡_, sym, ap, _∙_}
 use denote.Ref.{now}
 use Rattle.facts.specs.Read.{accepted}
 use Rattle.facts.specs.Answers.{fieldAnswer}
-use Rattle.facts.specs.Partial.{Partial, apply, standingAt}
-use Rattle.facts.specs.PartialLaws.{partial-here, partial-cut, apply-empty}
+use Rattle.facts.specs.Partial.{Partial, apply}
+use Rattle.facts.specs.PartialLaws.{apply-empty}
 use Rattle.facts.specs.Fields.{readNumber}
-use Rattle.facts.specs.FieldLaws.{number-read, number-short}
+use Rattle.facts.specs.FieldLaws.{number-read}
+use Rattle.facts.specs.InPlaceLaws.{standing-read, empty-read}
 use borrow.Author.Needs.{needs}
 use native.Mathlib.Omega.{arith}
 use Rattle.facts.proofs.partial.apply_at.Statement.{statement}
@@ -19,15 +19,13 @@ map-is c = sym (c .before .before .read-map .ensures) ∙ ap fieldAnswer (c .map
 returns : tie.Need-returns
 returns c =
     let a = c .before .before .before .before .before .args in
-    let cut = number-short (now (a .file)) 8 (a .at) (sym (c .before .before .read-map .ensures) ∙ ap fieldAnswer (c .enum-told .given .1)) in
-    sym (ap (λ (p : Partial). apply p (now (a .state))) (partial-cut (now (a .file)) (a .at) cut) ∙ apply-empty (now (a .state)))
+    sym (ap (λ (p : Partial). apply p (now (a .state))) (empty-read (now (a .file)) (a .at) (sym (c .before .before .read-map .ensures) ∙ ap fieldAnswer (c .enum-told .given .1))) ∙ apply-empty (now (a .state)))
 
 returns-2 : tie.Need-returns-2
 returns-2 c =
     let m = c .before .before .before .before .before in
     let a = m .before .before .before .before .before .args in
-    let n = number-read (now (a .file)) 8 (a .at) (map-is m) in
-    c .before .before .values-set .ensures ∙ sym (ap (λ (p : Partial). apply p (now (a .state))) (partial-here (now (a .file)) (a .at) (n .fits) ∙ ap (λ (map : ℕ). standingAt (now (a .file)) map (a .at + 8)) (n .value)))
+    c .before .before .values-set .ensures ∙ sym (ap (λ (p : Partial). apply p (now (a .state))) (standing-read (now (a .file)) (a .at) (map-is m)))
 
 pub apply-at-spec : {M : Type 1} → statement M
 apply-at-spec =

@@ -19,20 +19,20 @@ abbrev μ-loop : tie.MeasureT-loop
 returns : tie.Need-returns Inv-loop μ-loop
 returns c =
     let at-loop = c .before .before .before .before in
-    sym (at-loop .loop .inv .1 ∙ values-over _ _ _ (c .before .before .lowest-bit .ensures .0) _ (c .if1 .taken))
+    sym (at-loop .loop .inv .1 ∙ values-over _ _ _ (c .before .before .lowest-bit .ensures .stands (omega arith)) _ (c .if1 .taken))
 
 returns-2 : tie.Need-returns-2 Inv-loop μ-loop
 returns-2 c =
     let turn = c .before .before .before .before .before in
     sym (turn .before .before .before .before .loop .inv .1
-    ∙ values-refused _ _ _ (turn .before .before .lowest-bit .ensures .0) _ (turn .if1 .left) (sym (ap pastAnswer (c .before .why .given .1)) ∙ c .before .before .before .value-end .ensures))
+    ∙ values-refused _ _ _ (turn .before .before .lowest-bit .ensures .stands (omega arith)) _ (turn .if1 .left) (sym (ap pastAnswer (c .before .why .given .1)) ∙ c .before .before .before .value-end .ensures))
 
 loop-again : tie.Need-loop-again Inv-loop μ-loop
 loop-again c =
     let turn = c .before .before .before .before .before in (
       omega arith,
       turn .before .before .before .before .loop .inv .1
-          ∙ values-next _ _ _ (turn .before .before .lowest-bit .ensures .0) _ (turn .if1 .left) (sym (ap pastAnswer (c .before .next .given .1)) ∙ c .before .before .before .value-end .ensures),
+          ∙ values-next _ _ _ (turn .before .before .lowest-bit .ensures .stands (omega arith)) _ (turn .if1 .left) (sym (ap pastAnswer (c .before .next .given .1)) ∙ c .before .before .before .value-end .ensures),
     )
 
 returns-3 : tie.Need-returns-3 Inv-loop μ-loop
@@ -47,8 +47,8 @@ values-end-spec =
     Inv-loop
     μ-loop
     (λ c. (omega arith, refl))
-    (λ c κs. omega arith)
-    (λ c. omega (arith, c .before .lowest-bit .ensures .1))
+    (λ c κs. tt)
+    (λ c. omega (arith, c .before .lowest-bit .ensures .most))
     returns
     (λ c. omega arith)
     (λ c κs. search needs)

@@ -19,25 +19,25 @@ abbrev μ-loop : tie.MeasureT-loop
 returns : tie.Need-returns Inv-loop μ-loop
 returns c =
     let l = c .before .before .before .before .loop in
-    sym (l .inv .1 ∙ holds-over _ _ (l .v) (c .before .before .lowest-bit .ensures .0) (l .at) (c .if1 .taken))
+    sym (l .inv .1 ∙ holds-over _ _ (l .v) (c .before .before .lowest-bit .ensures .stands (omega arith)) (l .at) (c .if1 .taken))
 
 returns-2 : tie.Need-returns-2 Inv-loop μ-loop
 returns-2 c =
     let turn = c .before in
     let l = turn .before .before .before .before .loop in
-    sym (l .inv .1 ∙ holds-short _ _ (l .v) (turn .before .before .lowest-bit .ensures .0) (l .at) (turn .if1 .left) (c .if2 .taken))
+    sym (l .inv .1 ∙ holds-short _ _ (l .v) (turn .before .before .lowest-bit .ensures .stands (omega arith)) (l .at) (turn .if1 .left) (c .if2 .taken))
 
 returns-3 : tie.Need-returns-3 Inv-loop μ-loop
 returns-3 c =
     let turn = c .before .before .before .before in
     let l = turn .before .before .before .before .loop in
-    sym (l .inv .1 ∙ holds-not _ _ (l .v) (turn .before .before .lowest-bit .ensures .0) (l .at) (turn .if1 .left) (c .before .before .before .if2 .left) (c .if3 .taken))
+    sym (l .inv .1 ∙ holds-not _ _ (l .v) (turn .before .before .lowest-bit .ensures .stands (omega arith)) (l .at) (turn .if1 .left) (c .before .before .before .if2 .left) (c .if3 .taken))
 
 loop-again : tie.Need-loop-again Inv-loop μ-loop
 loop-again c =
     let turn = c .before .before .before .before in
     let l = turn .before .before .before .before .loop in
-    (omega arith, l .inv .1 ∙ holds-next _ _ (l .v) (turn .before .before .lowest-bit .ensures .0) (l .at) (turn .if1 .left) (c .before .before .before .if2 .left) (c .if3 .left))
+    (omega arith, l .inv .1 ∙ holds-next _ _ (l .v) (turn .before .before .lowest-bit .ensures .stands (omega arith)) (l .at) (turn .if1 .left) (c .before .before .before .if2 .left) (c .if3 .left))
 
 returns-4 : tie.Need-returns-4 Inv-loop μ-loop
 returns-4 c =
@@ -52,8 +52,8 @@ values-hold-spec =
     Inv-loop
     μ-loop
     (λ c. (omega arith, refl))
-    (λ c κs. omega arith)
-    (λ c. omega (arith, c .before .lowest-bit .ensures .1))
+    (λ c κs. tt)
+    (λ c. omega (arith, c .before .lowest-bit .ensures .most))
     returns
     returns-2
     (λ c. omega arith)

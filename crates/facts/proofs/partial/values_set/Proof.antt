@@ -20,19 +20,19 @@ abbrev μ-loop : tie.MeasureT-loop
 returns : tie.Need-returns Inv-loop μ-loop
 returns c =
     let l = c .before .before .before .before .loop in
-    sym (l .inv .2 ∙ apply-over _ (l .state) (l .v) (c .before .before .lowest-bit .ensures .0) (l .at) (c .if1 .taken))
+    sym (l .inv .2 ∙ apply-over _ (l .state) (l .v) (c .before .before .lowest-bit .ensures .stands (omega arith)) (l .at) (c .if1 .taken))
 
 returns-2 : tie.Need-returns-2 Inv-loop μ-loop
 returns-2 c =
     let turn = c .before in
     let l = turn .before .before .before .before .loop in
-    sym (l .inv .2 ∙ apply-short _ (l .state) (l .v) (turn .before .before .lowest-bit .ensures .0) (l .at) (c .if2 .taken))
+    sym (l .inv .2 ∙ apply-short _ (l .state) (l .v) (turn .before .before .lowest-bit .ensures .stands (omega arith)) (l .at) (c .if2 .taken))
 
 loop-again : tie.Need-loop-again Inv-loop μ-loop
 loop-again c =
     let turn = c .before .before in
     let l = turn .before .before .before .before .loop in
-    (simp length-set (omega arith), simp length-set (omega arith), l .inv .2 ∙ apply-next _ (l .state) (l .v) (turn .before .before .lowest-bit .ensures .0) (l .at) (turn .if1 .left) (c .before .if2 .left))
+    (simp length-set (omega arith), simp length-set (omega arith), l .inv .2 ∙ apply-next _ (l .state) (l .v) (turn .before .before .lowest-bit .ensures .stands (omega arith)) (l .at) (turn .if1 .left) (c .before .if2 .left))
 
 returns-3 : tie.Need-returns-3 Inv-loop μ-loop
 returns-3 c =
@@ -46,8 +46,8 @@ values-set-spec =
     Inv-loop
     μ-loop
     (λ c. (omega arith, refl, refl))
-    (λ c κs. omega arith)
-    (λ c. omega (arith, c .before .lowest-bit .ensures .1))
+    (λ c κs. tt)
+    (λ c. omega (arith, c .before .lowest-bit .ensures .most))
     (λ c. c .before .before .before .before .loop .inv .1)
     returns
     (λ c. c .before .before .before .before .before .loop .inv .1)
