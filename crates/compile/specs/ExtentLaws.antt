@@ -1,24 +1,24 @@
 -- Laws of how many steps the actions of a task have, and how many bytes: counted one action at a time.
-use mathlib.Core.Path.{_≡_, sym, ap, subst, _∙_}
+use mathlib.Core.Path.{_≡_, refl, sym, ap, _∙_}
 use Prim.Native.Nat.{ℕ, suc, _+_, _*_, _-_, _≤_, _<_, min}
 use native.Mathlib.Omega.{arith}
 use native.Mathlib.Numerals.{add-one}
 use mathlib.Core.List.{List, [], _∷_, _++_}
-use lib.Count.{ones}
-use lib.ListN.{length, getD, take, drop, length-append, length-drop}
-use lib.Seq.{length-take-le}
-use Rattle.facts.specs.Bytes.{numberAt}
+use lib.Count.{ones-le}
+use lib.ListN.{length, getD, take, drop, length-append}
 use Rattle.facts.specs.Lists.{total}
-use Rattle.facts.specs.Partial.{Partial, partialBytes, standingAt, partialAt, pastPartial}
-use Rattle.facts.specs.PartialLaws.{partial-here}
+use Rattle.facts.specs.Partial.{partialBytes, partialAt, pastPartial}
+use Rattle.facts.specs.InPlaceLaws.{past-is}
 use Rattle.taskfile.specs.Task.{Action}
-use Rattle.taskfile.specs.WalkInPlace.{nodeCount}
+use Rattle.taskfile.specs.WalkInPlace.{incomingPlace, nodeCount}
 use Rattle.taskfile.specs.MoveInPlaceLaws.{own-nodes}
 use Rattle.probe.specs.Probe.{Step}
 use Rattle.compilation.specs.Compile.{flat, actionSteps, edgeCount}
 use Rattle.compilation.specs.StepLaws.{total-append, action-length}
 use Rattle.compilation.specs.CompiledLengthLaws.{stepBytes, action-total}
-use Rattle.taskfile.specs.PartsInPlace.{nodesIn, actionIn, actionsIn, Stands, Stood}
+use Rattle.taskfile.specs.PartsInPlace.{nodesIn, actionIn, actionsIn, Stood}
+use Rattle.compile.specs.InPlace.{Weighs}
+use Rattle.compile.specs.PutLaws.{standing-long}
 use Rattle.compile.specs.InPlaceLaws.{stepsLeft, left-next}
 
 -- ---- what is counted and what is left are together all
@@ -47,19 +47,40 @@ counted-end c e = (omega (arith, c .steps-are, ap length e), omega (arith, c .by
 -- ---- one action
 
 module _ (f : List ℕ) where
-  -- A partial state that stands in the file has a value for each standing bit.
-  stands-values : {n at : ℕ} → Stands f n at → partialBytes (partialAt f at) ≡ 8 + length (partialAt f at .values)
-  unfolding standingAt
-  stands-values {n} {at} s =
-      let e = partial-here f at (omega (arith, s .fits)) in
-      let fits : at + (8 + ones (numberAt 8 f at)) ≤ length f = subst (λ (p : Partial). at + partialBytes p ≤ length f) e (s .fits) in
-      subst (λ (p : Partial). partialBytes p ≡ 8 + length (p .values)) (sym e) (ap (λ (k : ℕ). 8 + k) (sym (length-take-le (ones (numberAt 8 f at)) (drop (at + 8) f) (simp length-drop (omega (arith, fits))))))
-
   -- The steps of the action at an offset have the bytes of start and end, of the action's own partial states, and of the edges.
   bytes-in : (sizes : List ℕ) (n a : ℕ) {at : ℕ} {own : List ℕ} → Stood f sizes at own
       → total stepBytes (actionSteps n a (actionIn f sizes at own))
       ≡ 27 + (partialBytes (partialAt f at) + partialBytes (partialAt f (pastPartial f at))) + 21 * total edgeCount (nodesIn f sizes own 0 (nodeCount f at))
-  bytes-in sizes n a {at} {own} s = omega (arith, action-total n a (actionIn f sizes at own), stands-values (s .pre), stands-values (s .eff))
+  bytes-in sizes n a {at} {own} s = omega (arith, action-total n a (actionIn f sizes at own), standing-long f at (s .pre .fits), standing-long f (pastPartial f at) (s .eff .fits))
+
+  -- Where the incoming weight of the action at an offset stands, counted from its effect.
+  pub incoming-is : (at : ℕ) {effect incoming : ℕ} → effect ≡ pastPartial f at → incoming ≡ pastPartial f effect → incoming ≡ incomingPlace f at
+  unfolding incomingPlace
+  incoming-is at e i = i ∙ ap (pastPartial f) e
+
+  pub incoming-past : (at : ℕ) {effect incoming : ℕ} → effect ≡ pastPartial f at → incoming ≡ incomingPlace f at → incoming ≡ pastPartial f effect
+  unfolding incomingPlace
+  incoming-past at e i = i ∙ ap (pastPartial f) (sym e)
+
+  -- The incoming weight stands past the action's own partial states, within the file.
+  pub states-are : {sizes own : List ℕ} {at incoming : ℕ} → Stood f sizes at own → incoming ≡ incomingPlace f at
+      → (incoming ≡ at + (partialBytes (partialAt f at) + partialBytes (partialAt f (pastPartial f at)))) × (incoming ≤ length f) × (incoming ≤ at + 16 + 2 * length sizes)
+  unfolding incomingPlace
+  states-are {sizes} {own} {at} s e =
+      let effect = pastPartial f at in
+      let pre = past-is f at {n = partialBytes (partialAt f at)} refl in
+      let eff = past-is f effect {n = partialBytes (partialAt f effect)} refl in
+      let k = length sizes in
+      (omega (arith, e, pre, eff), omega (arith, e, eff, s .eff .fits), omega (arith, e, pre, eff, ones-le k (partialAt f at .map) (s .pre .below), ones-le k (partialAt f effect .map) (s .eff .below)))
+
+  -- The number of nodes stands behind the incoming weight.
+  pub count-in : (at : ℕ) {incoming count : ℕ} → incoming ≡ incomingPlace f at → count ≡ getD f (incoming + 2) 0 → count ≡ nodeCount f at
+  unfolding nodeCount
+  count-in at e h = h ∙ ap (λ (i : ℕ). getD f (i + 2) 0) e
+
+  -- Where the incoming weight of an action of an accepted file stands.
+  pub weighs : {sizes own : List ℕ} {at incoming : ℕ} → Stood f sizes at own → incoming ≡ incomingPlace f at → Weighs f at incoming
+  weighs s e = record { place = e; fits = states-are s e .1; few = s .few }
 
   -- The edges of an action's own nodes, which are those from index n on, where the index k is n, or the end of all offsets.
   pub edges-own : (sizes nodes : List ℕ) (at n : ℕ) {k count edges : ℕ} → k ≡ min n (length nodes) → count ≡ nodeCount f at
@@ -70,13 +91,12 @@ module _ (f : List ℕ) where
 
 module _ (f sizes actions firsts nodes : List ℕ) (count : ℕ) where
   -- The steps of action a are counted: its first node has the index k, or stands past the last offset.
-  pub counted-action : (a : ℕ) {whole : List Step} {steps bytes k m edges states : ℕ} → a < count → Stood f sizes (getD actions a 0) (drop (getD firsts a 0) nodes)
-      → k ≡ min (getD firsts a 0) (length nodes) → m ≡ nodeCount f (getD actions a 0)
+  pub counted-action : (a : ℕ) {whole : List Step} {steps bytes k m edges incoming : ℕ} → a < count → Stood f sizes (getD actions a 0) (drop (getD firsts a 0) nodes)
+      → k ≡ min (getD firsts a 0) (length nodes) → incoming ≡ incomingPlace f (getD actions a 0) → m ≡ getD f (incoming + 2) 0
       → edges ≡ total edgeCount (nodesIn f sizes (take (length nodes - k) (drop k nodes)) 0 m)
-      → states ≡ partialBytes (partialAt f (getD actions a 0)) + partialBytes (partialAt f (pastPartial f (getD actions a 0)))
-      → Counted whole (stepsLeft f sizes actions firsts nodes count a) steps bytes → Counted whole (stepsLeft f sizes actions firsts nodes count (a + 1)) (steps + (2 + edges)) (bytes + (27 + states + 21 * edges))
-  counted-action a l stood h g e p c =
+      → Counted whole (stepsLeft f sizes actions firsts nodes count a) steps bytes → Counted whole (stepsLeft f sizes actions firsts nodes count (a + 1)) (steps + (2 + edges)) (bytes + (27 + (incoming - getD actions a 0) + 21 * edges))
+  counted-action a l stood h i g e c =
       let n = length sizes in
       let x = actionIn f sizes (getD actions a 0) (drop (getD firsts a 0) nodes) in
-      let own = edges-own f sizes nodes (getD actions a 0) (getD firsts a 0) h g e in
-      counted-more (actionSteps n a x) (stepsLeft f sizes actions firsts nodes count (a + 1)) c (left-next f sizes actions firsts nodes count a l) (omega (arith, action-length n a x, own)) (omega (arith, bytes-in f sizes n a stood, own, p))
+      let own = edges-own f sizes nodes (getD actions a 0) (getD firsts a 0) h (count-in f (getD actions a 0) i g) e in
+      counted-more (actionSteps n a x) (stepsLeft f sizes actions firsts nodes count (a + 1)) c (left-next f sizes actions firsts nodes count a l) (omega (arith, action-length n a x, own)) (omega (arith, bytes-in f sizes n a stood, own, states-are f stood i .0))

@@ -9,6 +9,7 @@ use Rattle.facts.specs.Lists.{total}
 use Rattle.taskfile.specs.Task.{Node, Action}
 use Rattle.taskfile.specs.TaskFile.{edgeBytes}
 use Rattle.taskfile.specs.WalkInPlace.{nodeCount}
+use Rattle.facts.specs.Partial.{pastPartial}
 use Rattle.facts.specs.Write.{Wrote}
 use Rattle.facts.specs.Fields.{writeEach}
 use Rattle.probe.specs.Probe.{Step}
@@ -122,33 +123,34 @@ module _ (f sizes offsets : List ℕ) (n a count : ℕ) where
 
 -- ---- the steps of an action
 
-module _ (f sizes : List ℕ) (at : ℕ) (offsets : List ℕ) (n a : ℕ) {count : ℕ} (e : count ≡ nodeCount f at) where
+module _ (f sizes : List ℕ) (at : ℕ) (offsets : List ℕ) (n a : ℕ) {count effect : ℕ} (e : count ≡ nodeCount f at) (p : effect ≡ pastPartial f at) where
   -- The start, the steps of the nodes, the end.
   action-is :
       writeEach writeStep (actionSteps n a (actionIn f sizes at offsets))
-      ≡ (writeStep (startIn f n a at) ++ writeEach writeStep (flat (nodeSteps n a) 1 (nodesIn f sizes offsets 0 count))) ++ writeStep (endIn f n a at count)
+      ≡ (writeStep (startIn f n a at) ++ writeEach writeStep (flat (nodeSteps n a) 1 (nodesIn f sizes offsets 0 count))) ++ writeStep (endIn f n a effect count)
   action-is =
       let start = writeStep (startIn f n a at) in
       let nodes : (k : ℕ) → List ℕ = λ k. writeEach writeStep (flat (nodeSteps n a) 1 (nodesIn f sizes offsets 0 k)) in
       let all = nodeCount f at in
       ap (λ (bytes : List ℕ). start ++ bytes) (each-append writeStep (flat (nodeSteps n a) 1 (nodesIn f sizes offsets 0 all)) (endStep n a (actionIn f sizes at offsets) ∷ []))
-      ∙ ap (λ (k : ℕ). start ++ (nodes all ++ (writeStep (endIn f n a at k) ++ []))) (nodes-long f sizes offsets 0 all)
-      ∙ ap (λ (bytes : List ℕ). start ++ (nodes all ++ bytes)) (append-nil (writeStep (endIn f n a at all)))
-      ∙ sym (append-assoc start (nodes all) (writeStep (endIn f n a at all)))
-      ∙ ap (λ (k : ℕ). (start ++ nodes k) ++ writeStep (endIn f n a at k)) (sym e)
+      ∙ ap (λ (k : ℕ). start ++ (nodes all ++ (writeStep (endIn f n a (pastPartial f at) k) ++ []))) (nodes-long f sizes offsets 0 all)
+      ∙ ap (λ (bytes : List ℕ). start ++ (nodes all ++ bytes)) (append-nil (writeStep (endIn f n a (pastPartial f at) all)))
+      ∙ sym (append-assoc start (nodes all) (writeStep (endIn f n a (pastPartial f at) all)))
+      ∙ ap (λ (k : ℕ). (start ++ nodes k) ++ writeStep (endIn f n a (pastPartial f at) k)) (sym e)
+      ∙ ap (λ (x : ℕ). (start ++ nodes count) ++ writeStep (endIn f n a x count)) (sym p)
 
   -- Their lengths.
   pub action-long :
       length (writeEach writeStep (actionSteps n a (actionIn f sizes at offsets)))
-      ≡ length (writeStep (startIn f n a at)) + length (writeEach writeStep (flat (nodeSteps n a) 1 (nodesIn f sizes offsets 0 count))) + length (writeStep (endIn f n a at count))
+      ≡ length (writeStep (startIn f n a at)) + length (writeEach writeStep (flat (nodeSteps n a) 1 (nodesIn f sizes offsets 0 count))) + length (writeStep (endIn f n a effect count))
   action-long =
       let start = writeStep (startIn f n a at) in
       let nodes = writeEach writeStep (flat (nodeSteps n a) 1 (nodesIn f sizes offsets 0 count)) in
-      ap length action-is ∙ length-append (start ++ nodes) (writeStep (endIn f n a at count)) ∙ ap (λ (k : ℕ). k + length (writeStep (endIn f n a at count))) (length-append start nodes)
+      ap length action-is ∙ length-append (start ++ nodes) (writeStep (endIn f n a effect count)) ∙ ap (λ (k : ℕ). k + length (writeStep (endIn f n a effect count))) (length-append start nodes)
 
   -- They are written.
   pub wrote-action : {before now : List ℕ} {k : ℕ}
-      → Wrote ((writeStep (startIn f n a at) ++ writeEach writeStep (flat (nodeSteps n a) 1 (nodesIn f sizes offsets 0 count))) ++ writeStep (endIn f n a at count)) before now k
+      → Wrote ((writeStep (startIn f n a at) ++ writeEach writeStep (flat (nodeSteps n a) 1 (nodesIn f sizes offsets 0 count))) ++ writeStep (endIn f n a effect count)) before now k
       → Wrote (writeEach writeStep (actionSteps n a (actionIn f sizes at offsets))) before now k
   wrote-action {before} {now} {k} w = subst (λ (bytes : List ℕ). Wrote bytes before now k) (sym action-is) w
 

@@ -6,11 +6,13 @@ use native.Mathlib.Omega.{arith}
 use lib.Count.{ones}
 use lib.ListN.{length, getD, take, drop, length-append, length-drop}
 use lib.Pow.{pow-mono}
+use lib.Seq.{length-take-le}
 use borrow.Rule.Slice.PartMut.{putMid}
 use Rattle.facts.specs.Read.{accepted}
 use Rattle.facts.specs.Write.{over, fitting, Wrote}
 use Rattle.facts.specs.WriteLaws.{fitting-all, wrote-inside, wrote-room, wrote-then}
-use Rattle.facts.specs.Bytes.{bytesOf}
+use Rattle.facts.specs.Bytes.{bytesOf, numberAt}
+use Rattle.facts.specs.InPlaceLaws.{past-is}
 use Rattle.facts.specs.Partial.{Partial, writePartial, partialAt, standingAt, partialBytes, empty, pastPartial}
 use Rattle.facts.specs.PartialLaws.{length-written, partial-here}
 use Rattle.facts.specs.Fields.{readNumber, wordAt, writeOperator}
@@ -26,6 +28,10 @@ use Rattle.compile.specs.InPlace.{widened, startIn, endIn}
 pub wrote-fit : {bytes before now : List ℕ} {n : ℕ} → length bytes ≤ length before → Wrote (fitting bytes before) before now n → Wrote bytes before now n
 wrote-fit {bytes} {before} {now} {n} h w = rw (fitting-all bytes before h) at w
 
+-- So many bytes were written as they are, whatever the writer answers.
+pub wrote-counted : {bytes before now : List ℕ} {n k : ℕ} → k ≡ length bytes → Wrote bytes before now n → Wrote bytes before now k
+wrote-counted h w = record { count = h; buffer = w .buffer }
+
 -- Two further facts, as bits and values.
 pub extend-two : (p : Partial) (v w x y : ℕ) → widened p (2 ^ v + 2 ^ w) (x ∷ y ∷ []) ≡ extend (extend p v x) w y
 extend-two p v w x y =
@@ -39,6 +45,22 @@ power-small {v} h = pow-mono {i = v} {j = 56} (omega arith)
 -- A map of a task's variables with two bits of a probe file's more has at most 64.
 pub map-fits : (map n bits : ℕ) → map < 2 ^ n → n < 57 → bits < 288230376151711744 → map + bits < 18446744073709551616
 map-fits map n bits h l b = omega (arith, power-small {v = n} l)
+
+-- A partial state that ends within the file has a value for each standing bit.
+pub standing-long : (f : List ℕ) (at : ℕ) → at + partialBytes (partialAt f at) ≤ length f → partialBytes (partialAt f at) ≡ 8 + length (partialAt f at .values)
+unfolding standingAt
+standing-long f at h =
+    let e = partial-here f at (omega (arith, h)) in
+    let fits : at + (8 + ones (numberAt 8 f at)) ≤ length f = subst (λ (p : Partial). at + partialBytes p ≤ length f) e h in
+    subst (λ (p : Partial). partialBytes p ≡ 8 + length (p .values)) (sym e) (ap (λ (k : ℕ). 8 + k) (sym (length-take-le (ones (numberAt 8 f at)) (drop (at + 8) f) (simp length-drop (omega (arith, fits))))))
+
+-- How long it is with further facts.
+pub extended-long : (f : List ℕ) (at bits : ℕ) {end : ℕ} (further : List ℕ) → end ≡ pastPartial f at → end ≤ length f
+    → end - at + length further ≡ length (writePartial (widened (partialAt f at) bits further))
+extended-long f at bits further e h =
+    let p = partialAt f at in
+    let past = past-is f at {n = partialBytes p} refl in
+    omega (arith, e, past, standing-long f at (omega (arith, e, h, past)), length-written (widened p bits further), length-append (p .values) further)
 
 module _ {before now : List ℕ} {n : ℕ} where
   -- One fact is written.
@@ -83,25 +105,22 @@ wrote-edge {before} {now} {k} f at n a i v d {t} {w} e g h =
     (subst₂ (λ (x y : ℕ). Wrote ((writePartial (extend (extend empty v d) (marker n a) i) ++ writePartial (extend empty (marker n a) x)) ++ bytesOf 2 y) before now k) e g m)
 
 -- An action's start is written from the bytes of the action.
-pub wrote-start : {before now : List ℕ} {k : ℕ} (f : List ℕ) (at n a : ℕ) {e i w : ℕ} → e ≡ pastPartial f at → i ≡ pastPartial f e → w ≡ wordAt f i
+pub wrote-start : {before now : List ℕ} {k : ℕ} (f : List ℕ) (at n a : ℕ) {i w : ℕ} → i ≡ incomingPlace f at → w ≡ wordAt f i
     → Wrote ((writePartial (extend (extend (partialAt f at) n 0) (n + (1 + a)) 0) ++ writePartial (extend (extend empty n 1) (n + (1 + a)) 1)) ++ bytesOf 2 w) before now k
     → Wrote (writeStep (startIn f n a at)) before now k
-unfolding incomingPlace
-wrote-start {before} {now} {k} f at n a e i w h =
+wrote-start {before} {now} {k} f at n a i w h =
     wrote-step (extend (extend (partialAt f at) n 0) (marker n a) 0) (extend (extend empty n 1) (marker n a) 1) (wordAt f (incomingPlace f at))
     (subst₂ (λ (x y : ℕ). Wrote ((writePartial (extend (extend (partialAt f at) n 0) x 0) ++ writePartial (extend (extend empty n 1) x 1)) ++ bytesOf 2 y) before now k)
-    (marker-is n a) (w ∙ ap (wordAt f) (i ∙ ap (pastPartial f) e)) h)
+    (marker-is n a) (w ∙ ap (wordAt f) i) h)
 
--- An action's end is written from the bytes of the action.
-pub wrote-end : {before now : List ℕ} {k : ℕ} (f : List ℕ) (at n a count : ℕ) {e : ℕ} → e ≡ pastPartial f at
-    → Wrote ((writePartial (extend empty (n + (1 + a)) (1 + count)) ++ writePartial (extend (extend (partialAt f e) n 0) (n + (1 + a)) 0)) ++ bytesOf 2 0) before now k
-    → Wrote (writeStep (endIn f n a at count)) before now k
-wrote-end {before} {now} {k} f at n a count {e} g h =
+-- An action's end is written from the bytes of its effect.
+pub wrote-end : {before now : List ℕ} {k : ℕ} (f : List ℕ) (effect n a count : ℕ)
+    → Wrote ((writePartial (extend empty (n + (1 + a)) (1 + count)) ++ writePartial (extend (extend (partialAt f effect) n 0) (n + (1 + a)) 0)) ++ bytesOf 2 0) before now k
+    → Wrote (writeStep (endIn f n a effect count)) before now k
+wrote-end {before} {now} {k} f effect n a count h =
     let c : 1 + count ≡ suc count = omega arith in
-    let m : Wrote ((writePartial (extend empty (marker n a) (suc count)) ++ writePartial (extend (extend (partialAt f e) n 0) (marker n a) 0)) ++ bytesOf 2 0) before now k =
-    subst₂ (λ (x y : ℕ). Wrote ((writePartial (extend empty x y) ++ writePartial (extend (extend (partialAt f e) n 0) x 0)) ++ bytesOf 2 0) before now k) (marker-is n a) c h in
-    wrote-step (extend empty (marker n a) (suc count)) (extend (extend (partialAt f (pastPartial f at)) n 0) (marker n a) 0) 0
-    (subst (λ (p : ℕ). Wrote ((writePartial (extend empty (marker n a) (suc count)) ++ writePartial (extend (extend (partialAt f p) n 0) (marker n a) 0)) ++ bytesOf 2 0) before now k) g m)
+    wrote-step (extend empty (marker n a) (suc count)) (extend (extend (partialAt f effect) n 0) (marker n a) 0) 0
+    (subst₂ (λ (x y : ℕ). Wrote ((writePartial (extend empty x y) ++ writePartial (extend (extend (partialAt f effect) n 0) x 0)) ++ bytesOf 2 0) before now k) (marker-is n a) c h)
 
 -- Two further facts at 0.
 pub cleared-is : (p : Partial) (n m : ℕ) {bits : ℕ} → bits ≡ 2 ^ n + 2 ^ m → widened p bits (0 ∷ 0 ∷ []) ≡ extend (extend p n 0) m 0

@@ -1,14 +1,14 @@
 // How many steps the actions of a task have, and how many bytes.
 use crate::count::edge_count;
-use crate::count::node_count;
+use facts::number::byte_at;
+use facts::number::offset_at;
 use facts::number::offset_within;
 use facts::partial::length_at;
 ghost use mathlib.Core.Path.{_≡_};
 ghost use Prim.Native.Nat.{ℕ, _+_, _*_, _≤_, _<_};
 ghost use lib.ListN.{length, getD, drop};
 ghost use Rattle.facts.specs.Lists.{total};
-ghost use Rattle.facts.specs.Partial.{partialAt, partialBytes, pastPartial};
-ghost use Rattle.taskfile.specs.WalkInPlace.{nodeCount};
+ghost use Rattle.taskfile.specs.WalkInPlace.{incomingPlace};
 ghost use Rattle.compilation.specs.Compile.{flat, actionSteps, edgeCount};
 ghost use Rattle.compilation.specs.CompiledLengthLaws.{stepBytes};
 ghost use Rattle.taskfile.specs.PartsInPlace.{nodesIn, actionsIn, Stood};
@@ -25,16 +25,17 @@ pub struct Extent {
     pub bytes: usize,
 }
 
-// The steps of all actions: `action_at` has the offset of each, `first_node` the index of its first node in `node_at`.
+// The steps of all actions: `action_at` has the offset of each, `incoming_at` that of its incoming weight, `first_node` the index of its first node in `node_at`.
 pub fn extent_of(
     file: &[u8],
     sizes: &[u8],
     action_at: &[usize],
+    incoming_at: &[usize],
     first_node: &[usize],
     node_at: &[usize],
 ) -> Extent
     requires { ⌜ (length (now sizes) ≤ 24) × (length (now «action_at») ≤ 32) ⌝ }
-    requires { ⌜ ((a : ℕ) → a < length (now «action_at») → Stood (now file) (now sizes) (getD (now «action_at») a 0) (drop (getD (now «first_node») a 0) (now «node_at»))) ⌝ }
+    requires { ⌜ ((a : ℕ) → a < length (now «action_at») → Stood (now file) (now sizes) (getD (now «action_at») a 0) (drop (getD (now «first_node») a 0) (now «node_at»))) × ((a : ℕ) → a < length (now «action_at») → getD (now «incoming_at») a 0 ≡ incomingPlace (now file) (getD (now «action_at») a 0)) ⌝ }
     ensures { λ r. ⌜ r .steps ≡ length (flat (actionSteps (length (now (sizes .entry)))) 0 (actionsIn (now (file .entry)) (now (sizes .entry)) (now («action_at» .entry)) (now («first_node» .entry)) (now («node_at» .entry)) 0 (length (now («action_at» .entry))))) ⌝ }
     ensures { λ r. ⌜ r .bytes ≡ total stepBytes (flat (actionSteps (length (now (sizes .entry)))) 0 (actionsIn (now (file .entry)) (now (sizes .entry)) (now («action_at» .entry)) (now («first_node» .entry)) (now («node_at» .entry)) 0 (length (now («action_at» .entry))))) ⌝ }
 {
@@ -44,19 +45,34 @@ pub fn extent_of(
     while a < action_at.len() {
         let at = action_at[a];
         let first = offset_within(first_node, a, node_at.len());
-        let edges = edge_count(file, sizes, &node_at[first..], 0, node_count(file, at));
+        let incoming = offset_at(incoming_at, a);
+        let count = byte_at(file, incoming + 2);
+        let edges = edge_count(file, sizes, &node_at[first..], 0, count);
         steps += 2 + edges;
-        bytes += START_AND_END + own_bytes(file, at) + EDGE_STEP * edges;
+        bytes += START_AND_END + (incoming - at) + EDGE_STEP * edges;
         a += 1;
     }
     Extent { steps, bytes }
 }
 
-// The bytes of an action's precondition and effect.
-fn own_bytes(file: &[u8], at: usize) -> usize
-    requires { ⌜ at ≤ length (now file) ⌝ }
-    ensures { λ r. ⌜ (r ≡ partialBytes (partialAt (now (file .entry)) at) + partialBytes (partialAt (now (file .entry)) (pastPartial (now (file .entry)) at))) × (r ≤ 144) ⌝ }
+// Notes where the incoming weight of each action stands: past its precondition and its effect.
+pub fn note_incoming(file: &[u8], action_at: &[usize], incoming_at: &mut [usize])
+    requires { ⌜ length (now «action_at») ≤ length (now «incoming_at») ⌝ }
+    requires { ⌜ ((a : ℕ) → a < length (now «action_at») → getD (now «action_at») a 0 ≤ length (now file)) ⌝ }
+    ensures { λ r. ⌜ ((a : ℕ) → a < length (now («action_at» .entry)) → getD (now («incoming_at» .exit)) a 0 ≡ incomingPlace (now (file .entry)) (getD (now («action_at» .entry)) a 0)) ⌝ }
 {
-    let pre = length_at(file, at);
-    pre + length_at(file, at + pre)
+    let mut a: usize = 0;
+    while a < action_at.len() {
+        incoming_at[a] = incoming_place(file, action_at[a]);
+        a += 1;
+    }
+}
+
+// Where the incoming weight of the action at an offset stands.
+fn incoming_place(file: &[u8], at: usize) -> usize
+    requires { ⌜ at ≤ length (now file) ⌝ }
+    ensures { λ r. ⌜ r ≡ incomingPlace (now (file .entry)) at ⌝ }
+{
+    let effect = at + length_at(file, at);
+    effect + length_at(file, effect)
 }

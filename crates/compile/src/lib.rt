@@ -51,12 +51,22 @@ fn compile_in(file: &[u8], task: Task, out: &mut [u8]) -> Compiled
     let last = 1 + variables;
     let sizes = &file[1..last];
     let action_at = &starts[..actions];
-    let extent = extent_of(file, sizes, action_at, &firsts, &nodes);
+    let mut incoming = [0; 32];
+    length::note_incoming(file, action_at, &mut incoming);
+    let extent = extent_of(file, sizes, action_at, &incoming, &firsts, &nodes);
     let needed = head::head_length(file, variables, actions) + extent.bytes;
     if out.len() < needed {
         return Compiled::Refused(Refusal::Short(needed));
     }
-    let at = head::put_head(file, variables, action_at, extent.steps, out);
-    let written = action::put_actions(file, sizes, action_at, &firsts, &nodes, &mut out[at..]);
+    let at = head::put_head(file, variables, action_at, &incoming, extent.steps, out);
+    let written = action::put_actions(
+        file,
+        sizes,
+        action_at,
+        &incoming,
+        &firsts,
+        &nodes,
+        &mut out[at..],
+    );
     Compiled::Length(at + written)
 }

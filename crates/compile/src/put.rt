@@ -5,7 +5,7 @@ ghost use mathlib.Core.List.{[], _∷_};
 ghost use Prim.Native.Nat.{_+_, _^_, _≤_, _<_};
 ghost use lib.ListN.{length};
 ghost use Rattle.facts.specs.Bytes.{bytesOf};
-ghost use Rattle.facts.specs.Partial.{writePartial, partialAt, partialBytes, empty};
+ghost use Rattle.facts.specs.Partial.{writePartial, partialAt, pastPartial, empty};
 ghost use Rattle.facts.specs.Write.{Wrote};
 ghost use Rattle.compilation.specs.Extend.{extend};
 ghost use Rattle.compile.specs.InPlace.{widened};
@@ -54,9 +54,16 @@ pub fn two_bits(v: usize, w: usize) -> u64
     bit(v) + bit(w)
 }
 
-// The partial state at an offset of a file, with further facts above its own variables: their bits, and their values.
-pub fn put_extended(file: &[u8], at: usize, bits: u64, further: &[u8], out: &mut [u8]) -> usize
-    requires { ⌜ at + partialBytes (partialAt (now file) at) ≤ length (now file) ⌝ }
+// The partial state at an offset of a file, which ends at `end`, with further facts above its own variables: their bits, and their values.
+pub fn put_extended(
+    file: &[u8],
+    at: usize,
+    end: usize,
+    bits: u64,
+    further: &[u8],
+    out: &mut [u8],
+) -> usize
+    requires { ⌜ (end ≡ pastPartial (now file) at) × (end ≤ length (now file)) ⌝ }
     requires { ⌜ partialAt (now file) at .map + bits < 18446744073709551616 ⌝ }
     requires { ⌜ length (writePartial (widened (partialAt (now file) at) bits (now further))) ≤ length (now out) ⌝ }
     ensures { λ r. ⌜ Wrote (writePartial (widened (partialAt (now (file .entry)) at) bits (now (further .entry)))) (now (out .entry)) (now (out .exit)) r ⌝ }
@@ -65,8 +72,8 @@ pub fn put_extended(file: &[u8], at: usize, bits: u64, further: &[u8], out: &mut
         Field::Refused(_) => 0,
         Field::Value(map) => {
             let from = at + 8;
-            let end = at + facts::partial::partial_length(map);
-            facts::write::write_partial(out, map + bits, &file[from..end], further)
+            facts::write::write_partial(out, map + bits, &file[from..end], further);
+            end - at + further.len()
         }
     }
 }
@@ -78,7 +85,8 @@ pub fn put_two(v: usize, x: u8, w: usize, y: u8, out: &mut [u8]) -> usize
 {
     let lower = [x];
     let upper = [y];
-    facts::write::write_partial(out, two_bits(v, w), &lower, &upper)
+    facts::write::write_partial(out, two_bits(v, w), &lower, &upper);
+    10
 }
 
 // The fact of one variable.
@@ -88,5 +96,6 @@ pub fn put_one(v: usize, x: u8, out: &mut [u8]) -> usize
 {
     let none: [u8; 0] = [];
     let value = [x];
-    facts::write::write_partial(out, bit(v), &none, &value)
+    facts::write::write_partial(out, bit(v), &none, &value);
+    9
 }

@@ -6,36 +6,44 @@ use crate::put::put_word;
 use crate::put::two_bits;
 use facts::number::byte_at;
 use facts::number::word_at;
-use facts::partial::length_at;
+ghost use mathlib.Core.Path.{_≡_};
 ghost use Prim.Native.Nat.{_+_, _≤_, _<_};
 ghost use lib.ListN.{length};
 ghost use Rattle.facts.specs.Partial.{partialAt, writePartial, pastPartial};
 ghost use Rattle.facts.specs.Write.{Wrote};
+ghost use Rattle.taskfile.specs.WalkInPlace.{incomingPlace};
 ghost use Rattle.probe.specs.ProbeFile.{writeStep};
 ghost use Rattle.compilation.specs.Extend.{extend};
 ghost use Rattle.compilation.specs.Compile.{edgeStep};
 ghost use Rattle.taskfile.specs.PartsInPlace.{edgeIn, Stands};
 ghost use Rattle.compile.specs.InPlace.{startIn, endIn};
 
-// The partial state at an offset, with semaphore and marker of action a at 0.
-pub fn put_cleared(file: &[u8], at: usize, n: usize, a: usize, out: &mut [u8]) -> usize
-    requires { ⌜ Stands (now file) n at × (n + (1 + a) < 57) ⌝ }
+// The partial state at an offset, which ends at `end`, with semaphore and marker of action a at 0.
+pub fn put_cleared(file: &[u8], at: usize, end: usize, n: usize, a: usize, out: &mut [u8]) -> usize
+    requires { ⌜ Stands (now file) n at × (end ≡ pastPartial (now file) at) × (n + (1 + a) < 57) ⌝ }
     requires { ⌜ length (writePartial (extend (extend (partialAt (now file) at) n 0) (n + (1 + a)) 0)) ≤ length (now out) ⌝ }
     ensures { λ r. ⌜ Wrote (writePartial (extend (extend (partialAt (now (file .entry)) at) n 0) (n + (1 + a)) 0)) (now (out .entry)) (now (out .exit)) r ⌝ }
 {
     let zeros = [0, 0];
-    put_extended(file, at, two_bits(n, n + (1 + a)), &zeros, out)
+    put_extended(file, at, end, two_bits(n, n + (1 + a)), &zeros, out)
 }
 
-// The start of action a, at an offset: its precondition, semaphore and marker at 0; sets both to 1; costs the incoming weight.
-pub fn put_start(file: &[u8], at: usize, n: usize, a: usize, out: &mut [u8]) -> usize
-    requires { ⌜ Stands (now file) n at × Stands (now file) n (pastPartial (now file) at) × (n + (1 + a) < 57) ⌝ }
+// The start of action a, at an offset, whose effect and incoming weight stand at these: its precondition, semaphore and marker at 0; sets both to 1; costs the incoming weight.
+pub fn put_start(
+    file: &[u8],
+    at: usize,
+    effect: usize,
+    incoming: usize,
+    n: usize,
+    a: usize,
+    out: &mut [u8],
+) -> usize
+    requires { ⌜ Stands (now file) n at × (effect ≡ pastPartial (now file) at) × (incoming ≡ incomingPlace (now file) at) × (n + (1 + a) < 57) ⌝ }
     requires { ⌜ length (writeStep (startIn (now file) n a at)) ≤ length (now out) ⌝ }
     ensures { λ r. ⌜ Wrote (writeStep (startIn (now (file .entry)) n a at)) (now (out .entry)) (now (out .exit)) r ⌝ }
 {
-    let effect = at + length_at(file, at);
-    let weight = word_at(file, effect + length_at(file, effect));
-    let pre = put_cleared(file, at, n, a, out);
+    let weight = word_at(file, incoming);
+    let pre = put_cleared(file, at, effect, n, a, out);
     let eff = pre + put_two(n, 1, n + (1 + a), 1, &mut out[pre..]);
     eff + put_word(&mut out[eff..], weight)
 }
@@ -62,14 +70,21 @@ pub fn put_edge(
     eff + put_word(&mut out[eff..], weight)
 }
 
-// The end of action a, at an offset, with so many nodes: its marker at the terminal; sets the effect, semaphore and marker to 0; costs nothing.
-pub fn put_end(file: &[u8], at: usize, count: usize, n: usize, a: usize, out: &mut [u8]) -> usize
-    requires { ⌜ Stands (now file) n at × Stands (now file) n (pastPartial (now file) at) × (n + (1 + a) < 57) × (count ≤ 64) ⌝ }
-    requires { ⌜ length (writeStep (endIn (now file) n a at count)) ≤ length (now out) ⌝ }
-    ensures { λ r. ⌜ Wrote (writeStep (endIn (now (file .entry)) n a at count)) (now (out .entry)) (now (out .exit)) r ⌝ }
+// The end of action a, whose effect stands at an offset and ends at `end`, with so many nodes: its marker at the terminal; sets the effect, semaphore and marker to 0; costs nothing.
+pub fn put_end(
+    file: &[u8],
+    effect: usize,
+    end: usize,
+    count: usize,
+    n: usize,
+    a: usize,
+    out: &mut [u8],
+) -> usize
+    requires { ⌜ Stands (now file) n effect × (end ≡ pastPartial (now file) effect) × (n + (1 + a) < 57) × (count ≤ 64) ⌝ }
+    requires { ⌜ length (writeStep (endIn (now file) n a effect count)) ≤ length (now out) ⌝ }
+    ensures { λ r. ⌜ Wrote (writeStep (endIn (now (file .entry)) n a effect count)) (now (out .entry)) (now (out .exit)) r ⌝ }
 {
-    let effect = at + length_at(file, at);
     let pre = put_one(n + (1 + a), (1 + count) as u8, out);
-    let eff = pre + put_cleared(file, effect, n, a, &mut out[pre..]);
+    let eff = pre + put_cleared(file, effect, end, n, a, &mut out[pre..]);
     eff + put_word(&mut out[eff..], 0)
 }

@@ -40,7 +40,9 @@ module _ {new old : ℕ → ℕ → Number} (lower : (v d : ℕ) → AtMost (new
       → Falls new old (getD (leastFroms (numberPass sizes new) i nodes) k (exact 0)) (getD (leastFroms (numberPass sizes old) i nodes) k (exact 0))
   falls-froms sizes i [] k = unchanged
   falls-froms sizes i (nd ∷ nodes) zero =
-      falls-least (byEdge (numberPass sizes new) i nd (leastFroms (numberPass sizes new) (suc i) nodes)) (byEdge (numberPass sizes old) i nd (leastFroms (numberPass sizes old) (suc i) nodes))
+      falls-least
+      (byEdge (numberPass sizes new) nd (λ k. getD (leastFroms (numberPass sizes new) (suc i) nodes) (k - suc i) (exact 0)))
+      (byEdge (numberPass sizes old) nd (λ k. getD (leastFroms (numberPass sizes old) (suc i) nodes) (k - suc i) (exact 0)))
       (λ d. falls-plus (capped (edgeFor nd d .weight)) (falls-sum (falls-number lower (nd .var) d) (falls-froms sizes (suc i) nodes (edgeFor nd d .target - suc i))))
       (numberPass sizes new .values (nd .var))
   falls-froms sizes i (nd ∷ nodes) (suc k) = falls-froms sizes (suc i) nodes k

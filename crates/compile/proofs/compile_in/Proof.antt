@@ -1,9 +1,9 @@
 -- `compile::compile_in` meets its contract: head and steps, as they are written from the index, are the file of the task's probe. Assumes nothing.
-use Prim.Native.Nat.{ℕ, _+_, _-_, _≤_}
+use Prim.Native.Nat.{ℕ, _+_, _-_, _≤_, _<_}
 use mathlib.Core.Path.{_≡_, sym, ap, _∙_}
 use mathlib.Core.List.{List}
 use denote.Ref.{now}
-use lib.ListN.{length, take, drop}
+use lib.ListN.{length, getD, take, drop}
 use lib.Seq.{length-take-le}
 use borrow.Rule.Slice.PartMut.{putMid}
 use Rattle.facts.specs.Write.{Wrote}
@@ -13,6 +13,7 @@ use Rattle.probe.specs.ProbeFile.{writeProbe}
 use Rattle.compilation.specs.Compile.{probeOf}
 use Rattle.compilation.specs.StepLaws.{steps-most}
 use Rattle.compilation.specs.CompiledLengthLaws.{compiled-length}
+use Rattle.compile.specs.ExtentLaws.{weighs}
 use Rattle.taskfile.specs.PartsInPlaceLaws.{actions-stood, goal-stands}
 use Rattle.compile.specs.TaskInPlaceLaws.{steps-in-place, file-length, front-room, front-inside, steps-room, file-wrote, compile-short, compile-wrote}
 use borrow.Author.Needs.{needs}
@@ -45,60 +46,67 @@ starts-long c = length-take-le (c .args .task .actions) (c .args .task .starts) 
 limits : (c : tie.Start) → (length (take (1 + c .args .task .variables - 1) (drop 1 (now (c .args .file)))) ≤ 24) × (length (take (c .args .task .actions) (c .args .task .starts)) ≤ 32)
 limits c = (omega (arith, ap length (sizes-are c), task c .variables, begins c .variables), omega (arith, starts-long c, begins c .actions))
 
+-- an action begins within the file
+begin : (c : tie.Start) (a : ℕ) → a < length (take (c .args .task .actions) (c .args .task .starts)) → getD (take (c .args .task .actions) (c .args .task .starts)) a 0 ≤ length (now (c .args .file))
+begin c a h = omega (arith, actions-stood (now (c .args .file)) (c .pre) (sizes-are c) a h .pre .fits)
+
+note-incoming-requires : tie.Need-note-incoming-requires
+note-incoming-requires c κs = let s = c .before .before .before .before .before .before .before .before in (limits s .1, begin s)
+
 extent-of-requires : tie.Need-extent-of-requires
-extent-of-requires c κs = let s = c .before .before .before .before .before .before .before .before .before in (limits s, actions-stood (now (s .args .file)) (s .pre) (sizes-are s))
+extent-of-requires c κs = let s = c .before .before .before .before .before .before .before .before .before .before .before .before .before in (limits s, (actions-stood (now (s .args .file)) (s .pre) (sizes-are s), c .before .before .before .before .note-incoming .ensures))
 
 head-length-requires : tie.Need-head-length-requires
-head-length-requires c κs = let b = begins (c .before .before .before .before .before .before .before .before .before .before) in (b .variables, b .actions, b .fits)
+head-length-requires c κs = let b = begins (c .before .before .before .before .before .before .before .before .before .before .before .before .before .before) in (b .variables, b .actions, b .fits)
 
 -- the length that is needed
-needed-is : (c : tie.After-head-length) → c .head-length .result + c .before .extent-of .result .bytes ≡ length (probe (c .before .before .before .before .before .before .before .before .before .before .before))
-needed-is c = let s = c .before .before .before .before .before .before .before .before .before .before .before in file-length (now (s .args .file)) (s .pre) (sizes-are s) (c .head-length .ensures .0) (c .before .extent-of .ensures .1)
+needed-is : (c : tie.After-head-length) → c .head-length .result + c .before .extent-of .result .bytes ≡ length (probe (c .before .before .before .before .before .before .before .before .before .before .before .before .before .before .before))
+needed-is c = let s = c .before .before .before .before .before .before .before .before .before .before .before .before .before .before .before in file-length (now (s .args .file)) (s .pre) (sizes-are s) (c .head-length .ensures .0) (c .before .extent-of .ensures .1)
 
 add-needed : tie.Need-add-needed
-add-needed c = let s = c .before .before .before .before .before .before .before .before .before .before .before .before in omega (arith, needed-is (c .before), compiled-length (now (s .args .file)) (task s .reads))
+add-needed c = let s = c .before .before .before .before .before .before .before .before .before .before .before .before .before .before .before .before in omega (arith, needed-is (c .before), compiled-length (now (s .args .file)) (task s .reads))
 
 returns : tie.Need-returns
 returns c =
-    let s = c .before .before .before .before .before .before .before .before .before .before .before .before .before in
+    let s = c .before .before .before .before .before .before .before .before .before .before .before .before .before .before .before .before .before in
     let r = compile-short (now (s .args .file)) (task s .reads) (now (s .args .out)) (needed-is (c .before .before)) (c .if1 .taken) in
     (sym (r .0), sym (r .1))
 
 -- there is room for it
-room : (c : tie.Else1) → let s = c .before .before .before .before .before .before .before .before .before .before .before .before .before in length (probe s) ≤ length (now (s .args .out))
+room : (c : tie.Else1) → let s = c .before .before .before .before .before .before .before .before .before .before .before .before .before .before .before .before .before in length (probe s) ≤ length (now (s .args .out))
 room c = omega (arith, needed-is (c .before .before), c .if1 .left)
 
 put-head-requires : tie.Need-put-head-requires
 put-head-requires c κs =
-    let s = c .before .before .before .before .before .before .before .before .before .before .before .before .before .before in
+    let s = c .before .before .before .before .before .before .before .before .before .before .before .before .before .before .before .before .before .before .before in
     let f = now (s .args .file) in
     let r = task s .reads in
-    let count = c .before .before .before .before .extent-of .ensures .0 in (
+    let count = c .before .before .before .before .before .extent-of .ensures .0 in (
       (begins s .variables, limits s .1, omega (arith, count, ap length (steps-in-place f (s .pre) (sizes-are s)), steps-most (task s .task) (task-wf f r) (task-limits f r)), goal-stands f (s .pre)),
-      ((λ a l. let o = actions-stood f (s .pre) (sizes-are s) a l in (omega (arith, o .pre .fits), o .few)), front-room f (s .pre) (sizes-are s) count (room (c .before))),
+      ((λ a l. weighs f (actions-stood f (s .pre) (sizes-are s) a l) (c .before .before .before .before .before .before .before .before .before .before .note-incoming .ensures a l)), front-room f (s .pre) (sizes-are s) count (room (c .before .before))),
     )
 
 -- the steps begin within the buffer
-inside : (c : tie.After-put-head) → c .put-head .result ≤ length (c .put-head .last .1 .1 .1 .1 .0)
-inside c = let s = c .before .before .before .before .before .before .before .before .before .before .before .before .before .before .before in front-inside (now (s .args .file)) (s .pre) (sizes-are s) (c .before .before .before .before .before .extent-of .ensures .0) (room (c .before .before)) (c .put-head .ensures)
+inside : (c : tie.After-put-head) → c .put-head .result ≤ length (c .put-head .last .1 .1 .1 .1 .1 .0)
+inside c = let s = c .before .before .before .before .before .before .before .before .before .before .before .before .before .before .before .before .before .before .before .before in front-inside (now (s .args .file)) (s .pre) (sizes-are s) (c .before .before .before .before .before .before .extent-of .ensures .0) (room (c .before .before .before)) (c .put-head .ensures)
 
 put-actions-requires : tie.Need-put-actions-requires
 put-actions-requires c κs =
-    let s = c .before .before .before .before .before .before .before .before .before .before .before .before .before .before .before .before .before .before .before .before in
+    let s = c .before .before .before .before .before .before .before .before .before .before .before .before .before .before .before .before .before .before .before .before .before .before .before .before .before .before in
     let f = now (s .args .file) in
-    (limits s, (actions-stood f (s .pre) (sizes-are s), steps-room f (s .pre) (sizes-are s) (c .before .before .before .before .before .before .before .before .before .before .extent-of .ensures .0) (room (c .before .before .before .before .before .before .before)) (c .before .before .before .before .before .put-head .ensures)))
+    (limits s, ((actions-stood f (s .pre) (sizes-are s), c .before .before .before .before .before .before .before .before .before .before .before .before .before .before .before .before .before .note-incoming .ensures), steps-room f (s .pre) (sizes-are s) (c .before .before .before .before .before .before .before .before .before .before .before .before .extent-of .ensures .0) (room (c .before .before .before .before .before .before .before .before .before)) (c .before .before .before .before .before .before .put-head .ensures)))
 
 -- the file is written
-wrote : (c : tie.After-put-actions) → let s = c .before .before .before .before .before .before .before .before .before .before .before .before .before .before .before .before .before .before .before .before .before in let front = c .before .before .before .before .before .before .put-head in Wrote (probe s) (now (s .args .out)) (putMid (front .result) (length (front .last .1 .1 .1 .1 .0) - front .result) (front .last .1 .1 .1 .1 .0) (c .put-actions .last .1 .1 .1 .1 .1 .0)) (front .result + c .put-actions .result)
-wrote c = let s = c .before .before .before .before .before .before .before .before .before .before .before .before .before .before .before .before .before .before .before .before .before in file-wrote (now (s .args .file)) (s .pre) (sizes-are s) (c .before .before .before .before .before .before .before .before .before .before .before .extent-of .ensures .0) (room (c .before .before .before .before .before .before .before .before)) (c .before .before .before .before .before .before .put-head .ensures) (c .put-actions .ensures)
+wrote : (c : tie.After-put-actions) → let s = c .before .before .before .before .before .before .before .before .before .before .before .before .before .before .before .before .before .before .before .before .before .before .before .before .before .before .before in let front = c .before .before .before .before .before .before .before .put-head in Wrote (probe s) (now (s .args .out)) (putMid (front .result) (length (front .last .1 .1 .1 .1 .1 .0) - front .result) (front .last .1 .1 .1 .1 .1 .0) (c .put-actions .last .1 .1 .1 .1 .1 .1 .0)) (front .result + c .put-actions .result)
+wrote c = let s = c .before .before .before .before .before .before .before .before .before .before .before .before .before .before .before .before .before .before .before .before .before .before .before .before .before .before .before in file-wrote (now (s .args .file)) (s .pre) (sizes-are s) (c .before .before .before .before .before .before .before .before .before .before .before .before .before .extent-of .ensures .0) (room (c .before .before .before .before .before .before .before .before .before .before)) (c .before .before .before .before .before .before .before .put-head .ensures) (c .put-actions .ensures)
 
-add-t17 : tie.Need-add-t17
-add-t17 c = let s = c .before .before .before .before .before .before .before .before .before .before .before .before .before .before .before .before .before .before .before .before .before .before .before in omega (arith, wrote (c .before .before) .count, compiled-length (now (s .args .file)) (task s .reads))
+add-t18 : tie.Need-add-t18
+add-t18 c = let s = c .before .before .before .before .before .before .before .before .before .before .before .before .before .before .before .before .before .before .before .before .before .before .before .before .before .before .before .before .before in omega (arith, wrote (c .before .before) .count, compiled-length (now (s .args .file)) (task s .reads))
 
 returns-2 : tie.Need-returns-2
 returns-2 c =
-    let s = c .before .before .before .before .before .before .before .before .before .before .before .before .before .before .before .before .before .before .before .before .before .before .before in
-    let r = compile-wrote (now (s .args .file)) (task s .reads) (room (c .before .before .before .before .before .before .before .before .before .before)) (wrote (c .before .before)) in
+    let s = c .before .before .before .before .before .before .before .before .before .before .before .before .before .before .before .before .before .before .before .before .before .before .before .before .before .before .before .before .before in
+    let r = compile-wrote (now (s .args .file)) (task s .reads) (room (c .before .before .before .before .before .before .before .before .before .before .before .before)) (wrote (c .before .before)) in
     (sym (r .0), sym (r .1))
 
 pub compile-in-spec : {M : Type 1} → statement M
@@ -112,18 +120,23 @@ compile-in-spec =
     (λ c. few (c .before .before .before .before .before .before))
     (λ c. sym (starts-long (c .before .before .before .before .before .before .before)))
     (λ c. search needs)
+    note-incoming-requires
+    (λ c. search needs)
+    (λ c. search needs)
     (λ c. search needs)
     extent-of-requires
     head-length-requires
     add-needed
     returns
+    (λ c. search needs)
     put-head-requires
     (λ c. search needs)
     (λ c. search needs)
-    (λ c. inside (c .before .before .before .before))
-    (λ c. inside (c .before .before .before .before))
+    (λ c. sym (c .before .before .before .before .before .before .before .before .before .before .before .before .before .before .before .before .before .before .before .before .before .before .before .before .before .pre .nodes-long))
+    (λ c. inside (c .before .before .before .before .before))
+    (λ c. inside (c .before .before .before .before .before))
     (λ c. search needs)
     put-actions-requires
-    add-t17
+    add-t18
     (λ c. search needs)
     returns-2)

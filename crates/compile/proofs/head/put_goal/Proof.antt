@@ -6,6 +6,7 @@ use lib.ListN.{length, replicate}
 use lib.Seq.{length-take-le}
 use denote.Ref.{now}
 use Rattle.facts.specs.Partial.{Partial, partialAt, writePartial}
+use Rattle.facts.specs.InPlaceLaws.{past-is}
 use Rattle.compile.specs.HeadLaws.{goal-is, row-fits, wrote-goal}
 use borrow.Author.Needs.{needs}
 use Rattle.compile.proofs.head.put_goal.Statement.{statement}
@@ -17,9 +18,10 @@ goal c = partialAt (now (c .args .file)) (1 + 2 * c .args .n)
 
 put-extended-requires : tie.Need-put-extended-requires
 put-extended-requires c κs =
-    let s = c .before .before .before .before .before in
-    let bits = c .before .before .row-of-bits in (
-      s .pre .0 .2 .fits,
+    let s = c .before .before .before .before .before .before in
+    let past = past-is (now (s .args .file)) (1 + 2 * s .args .n) (c .before .before .length-at .ensures .0) in
+    let bits = c .before .before .before .row-of-bits in (
+      (past, omega (arith, c .before .before .length-at .ensures .0, s .pre .0 .2 .fits)),
       (
         row-fits (goal s .map) (s .args .n) (1 + s .args .actions) (bits .result) (s .pre .0 .2 .below) (omega (arith, s .pre .0 .0, s .pre .0 .1)) (bits .ensures),
         subst (λ (q : Partial). length (writePartial q) ≤ length (now (s .args .out))) (sym (goal-is (goal s) (s .args .n) (s .args .actions) (bits .result) (s .pre .0 .1) (bits .ensures))) (s .pre .1),
@@ -28,8 +30,8 @@ put-extended-requires c κs =
 
 returns : tie.Need-returns
 returns c =
-    let s = c .before .before .before .before .before .before .before .before in
-    wrote-goal (goal s) (s .args .n) (s .args .actions) (c .before .before .before .before .before .row-of-bits .result) (s .pre .0 .1) (c .before .before .before .before .before .row-of-bits .ensures) (c .before .before .put-extended .ensures)
+    let s = c .before .before .before .before .before .before .before .before .before in
+    wrote-goal (goal s) (s .args .n) (s .args .actions) (c .before .before .before .before .before .before .row-of-bits .result) (s .pre .0 .1) (c .before .before .before .before .before .before .row-of-bits .ensures) (c .before .before .put-extended .ensures)
 
 pub put-goal-spec : {M : Type 1} → statement M
 put-goal-spec =
@@ -39,8 +41,10 @@ put-goal-spec =
     (λ c κs. search needs)
     (λ c. search needs)
     (λ c. search needs)
+    (λ c κs. search needs)
     (λ c. search needs)
-    (λ c. let s = c .before .before .before .before in sym (length-take-le (1 + s .args .actions) (replicate 33 0) (omega (arith, s .pre .0 .1))))
+    (λ c. search needs)
+    (λ c. let s = c .before .before .before .before .before in sym (length-take-le (1 + s .args .actions) (replicate 33 0) (omega (arith, s .pre .0 .1))))
     put-extended-requires
     (λ c. search needs)
     returns)

@@ -39,38 +39,38 @@ inside c = omega (arith, c .pre .0 .3 .fits)
 
 put-sizes-requires : tie.Need-put-sizes-requires
 put-sizes-requires c κs =
-    let s = c .before .before .before .before in (
+    let s = c .before .before .before .before .before in (
       (s .pre .0 .0, s .pre .0 .1, inside s),
       (s .pre .1 .0, omega (arith, fits s, sizes-long (now (s .args .file)) (s .args .n) (now (s .args .action-at)) (omega (arith, inside s)))),
     )
 
 put-init-requires : tie.Need-put-init-requires
 put-init-requires c κs =
-    let s = c .before .before .before .before .before .before .before .before in (
+    let s = c .before .before .before .before .before .before .before .before .before in (
       (s .pre .0 .0, s .pre .0 .1, inside s),
       wrote-room (c .before .before .before .put-sizes .ensures) (omega (arith, fits s, init-long (now (s .args .file)) (s .args .n) (length (now (s .args .action-at))) (inside s))),
     )
 
 put-goal-requires : tie.Need-put-goal-requires
 put-goal-requires c κs =
-    let s = c .before .before .before .before .before .before .before .before .before .before .before .before in (
+    let s = c .before .before .before .before .before .before .before .before .before .before .before .before .before in (
       (s .pre .0 .0, s .pre .0 .1, s .pre .0 .3),
       wrote-room {bytes = sizes s ++ init s} (wrote-then (c .before .before .before .before .before .before .before .put-sizes .ensures) (c .before .before .before .put-init .ensures)) (omega (arith, fits s, two-long s)),
     )
 
 put-word-requires : tie.Need-put-word-requires
 put-word-requires c κs =
-    let s = c .before .before .before .before .before .before .before .before .before .before .before .before .before .before .before .before in
+    let s = c .before .before .before .before .before .before .before .before .before .before .before .before .before .before .before .before .before in
     wrote-room {bytes = (sizes s ++ init s) ++ goal s} (wrote-then (wrote-then (c .before .before .before .before .before .before .before .before .before .before .before .put-sizes .ensures) (c .before .before .before .before .before .before .before .put-init .ensures)) (c .before .before .before .put-goal .ensures)) (omega (arith, fits s, three-long s))
 
 add-result : tie.Need-add-result
 add-result c =
-    let s = c .before .before .before .before .before .before .before .before .before .before .before .before .before .before .before .before .before .before .before in
+    let s = c .before .before .before .before .before .before .before .before .before .before .before .before .before .before .before .before .before .before .before .before in
     omega (arith, fits s, c .before .before .before .before .before .before .before .before .before .before .before .before .before .before .put-sizes .ensures .count, c .before .before .before .before .before .before .before .before .before .before .put-init .ensures .count, c .before .before .before .before .before .before .put-goal .ensures .count, c .before .before .put-word .ensures .count)
 
 returns : tie.Need-returns
 returns c =
-    let s = c .before .before .before .before .before .before .before .before .before .before .before .before .before .before .before .before .before .before .before in
+    let s = c .before .before .before .before .before .before .before .before .before .before .before .before .before .before .before .before .before .before .before .before in
     wrote-head (now (s .args .file)) (s .args .n) (now (s .args .action-at)) (s .args .steps)
     (wrote-then (wrote-then (wrote-then (c .before .before .before .before .before .before .before .before .before .before .before .before .before .before .put-sizes .ensures) (c .before .before .before .before .before .before .before .before .before .before .put-init .ensures)) (c .before .before .before .before .before .before .put-goal .ensures)) (c .before .before .put-word .ensures))
 
@@ -79,18 +79,18 @@ put-head-spec =
     tie.close
     (tie.spec
     put-sizes-requires
-    (λ c. wrote-inside (c .before .before .put-sizes .ensures) (omega (arith, fits (c .before .before .before .before .before .before .before))))
-    (λ c. wrote-inside (c .before .before .put-sizes .ensures) (omega (arith, fits (c .before .before .before .before .before .before .before))))
+    (λ c. wrote-inside (c .before .before .put-sizes .ensures) (omega (arith, fits (c .before .before .before .before .before .before .before .before))))
+    (λ c. wrote-inside (c .before .before .put-sizes .ensures) (omega (arith, fits (c .before .before .before .before .before .before .before .before))))
     (λ c. search needs)
     put-init-requires
-    (λ c. omega (arith, fits (c .before .before .before .before .before .before .before .before .before .before .before), c .before .before .before .before .before .before .put-sizes .ensures .count, c .before .before .put-init .ensures .count))
-    (λ c. let s = c .before .before .before .before .before .before .before .before .before .before .before in wrote-inside {bytes = sizes s ++ init s} (wrote-then (c .before .before .before .before .before .before .put-sizes .ensures) (c .before .before .put-init .ensures)) (omega (arith, fits s, two-long s)))
-    (λ c. let s = c .before .before .before .before .before .before .before .before .before .before .before in wrote-inside {bytes = sizes s ++ init s} (wrote-then (c .before .before .before .before .before .before .put-sizes .ensures) (c .before .before .put-init .ensures)) (omega (arith, fits s, two-long s)))
+    (λ c. omega (arith, fits (c .before .before .before .before .before .before .before .before .before .before .before .before), c .before .before .before .before .before .before .put-sizes .ensures .count, c .before .before .put-init .ensures .count))
+    (λ c. let s = c .before .before .before .before .before .before .before .before .before .before .before .before in wrote-inside {bytes = sizes s ++ init s} (wrote-then (c .before .before .before .before .before .before .put-sizes .ensures) (c .before .before .put-init .ensures)) (omega (arith, fits s, two-long s)))
+    (λ c. let s = c .before .before .before .before .before .before .before .before .before .before .before .before in wrote-inside {bytes = sizes s ++ init s} (wrote-then (c .before .before .before .before .before .before .put-sizes .ensures) (c .before .before .put-init .ensures)) (omega (arith, fits s, two-long s)))
     (λ c. search needs)
     put-goal-requires
-    (λ c. omega (arith, fits (c .before .before .before .before .before .before .before .before .before .before .before .before .before .before .before), c .before .before .before .before .before .before .before .before .before .before .put-sizes .ensures .count, c .before .before .before .before .before .before .put-init .ensures .count, c .before .before .put-goal .ensures .count))
-    (λ c. let s = c .before .before .before .before .before .before .before .before .before .before .before .before .before .before .before in wrote-inside {bytes = (sizes s ++ init s) ++ goal s} (wrote-then (wrote-then (c .before .before .before .before .before .before .before .before .before .before .put-sizes .ensures) (c .before .before .before .before .before .before .put-init .ensures)) (c .before .before .put-goal .ensures)) (omega (arith, fits s, three-long s)))
-    (λ c. let s = c .before .before .before .before .before .before .before .before .before .before .before .before .before .before .before in wrote-inside {bytes = (sizes s ++ init s) ++ goal s} (wrote-then (wrote-then (c .before .before .before .before .before .before .before .before .before .before .put-sizes .ensures) (c .before .before .before .before .before .before .put-init .ensures)) (c .before .before .put-goal .ensures)) (omega (arith, fits s, three-long s)))
+    (λ c. omega (arith, fits (c .before .before .before .before .before .before .before .before .before .before .before .before .before .before .before .before), c .before .before .before .before .before .before .before .before .before .before .put-sizes .ensures .count, c .before .before .before .before .before .before .put-init .ensures .count, c .before .before .put-goal .ensures .count))
+    (λ c. let s = c .before .before .before .before .before .before .before .before .before .before .before .before .before .before .before .before in wrote-inside {bytes = (sizes s ++ init s) ++ goal s} (wrote-then (wrote-then (c .before .before .before .before .before .before .before .before .before .before .put-sizes .ensures) (c .before .before .before .before .before .before .put-init .ensures)) (c .before .before .put-goal .ensures)) (omega (arith, fits s, three-long s)))
+    (λ c. let s = c .before .before .before .before .before .before .before .before .before .before .before .before .before .before .before .before in wrote-inside {bytes = (sizes s ++ init s) ++ goal s} (wrote-then (wrote-then (c .before .before .before .before .before .before .before .before .before .before .put-sizes .ensures) (c .before .before .before .before .before .before .put-init .ensures)) (c .before .before .put-goal .ensures)) (omega (arith, fits s, three-long s)))
     (λ c. search needs)
     (λ c. search needs)
     put-word-requires

@@ -22,17 +22,17 @@ markers-long c = length-map (now (c .args .action-at)) (λ (at : ℕ). nodeCount
 
 put-markers-requires : tie.Need-put-markers-requires
 put-markers-requires c κs =
-    let s = c .before .before .before .before .before .before .before .before .before .before .before .before .before .before .before .before .before in
+    let s = c .before .before .before .before .before .before .before .before .before .before .before .before .before .before .before .before .before .before in
     (s .pre .1 .0, wrote-room (wrote-then (wrote-then (c .before .before .before .before .before .before .before .before .before .before .before .before .put-byte .ensures) (c .before .before .before .before .before .before .before .put-bytes .ensures)) (c .before .before .before .put-byte2 .ensures)) (simp length-append (omega (arith, own-long s, s .pre .1 .1))))
 
 add-result : tie.Need-add-result
 add-result c =
-    let s = c .before .before .before .before .before .before .before .before .before .before .before .before .before .before .before .before .before .before .before .before in
+    let s = c .before .before .before .before .before .before .before .before .before .before .before .before .before .before .before .before .before .before .before .before .before in
     omega (arith, own-long s, markers-long s, s .pre .0, c .before .before .before .before .before .before .before .before .before .before .before .before .before .before .before .put-byte .ensures .count, c .before .before .before .before .before .before .before .before .before .before .put-bytes .ensures .count, c .before .before .before .before .before .before .put-byte2 .ensures .count, c .before .before .put-markers .ensures .count)
 
 returns : tie.Need-returns
 returns c =
-    let s = c .before .before .before .before .before .before .before .before .before .before .before .before .before .before .before .before .before .before .before .before in
+    let s = c .before .before .before .before .before .before .before .before .before .before .before .before .before .before .before .before .before .before .before .before .before in
     wrote-sizes (now (s .args .file)) (s .args .n) (now (s .args .action-at)) {own = 1 + s .args .n - 1} (omega arith)
     (wrote-then (wrote-then (wrote-then (c .before .before .before .before .before .before .before .before .before .before .before .before .before .before .before .put-byte .ensures) (c .before .before .before .before .before .before .before .before .before .before .put-bytes .ensures)) (c .before .before .before .before .before .before .put-byte2 .ensures)) (c .before .before .put-markers .ensures))
 

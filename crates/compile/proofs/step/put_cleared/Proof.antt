@@ -1,10 +1,11 @@
 -- `compile::step::put_cleared` meets its contract: two further facts at 0. Assumes nothing.
 use Prim.Native.Nat.{_+_, _≤_}
-use mathlib.Core.Path.{sym, subst}
+use mathlib.Core.Path.{refl, sym, subst}
 use native.Mathlib.Omega.{arith}
 use lib.ListN.{length}
 use denote.Ref.{now}
-use Rattle.facts.specs.Partial.{Partial, partialAt, writePartial}
+use Rattle.facts.specs.Partial.{Partial, partialBytes, partialAt, writePartial}
+use Rattle.facts.specs.InPlaceLaws.{past-is}
 use Rattle.compile.specs.PutLaws.{map-fits, cleared-is, wrote-cleared}
 use borrow.Author.Needs.{needs}
 use Rattle.compile.proofs.step.put_cleared.Statement.{statement}
@@ -16,9 +17,9 @@ put-extended-requires c κs =
     let bits = c .before .before .two-bits .ensures in
     let p = partialAt (now (s .args .file)) (s .args .at) in
     let n = s .args .n in (
-      s .pre .0 .0 .fits,
+      (s .pre .0 .1, omega (arith, s .pre .0 .1, s .pre .0 .0 .fits, past-is (now (s .args .file)) (s .args .at) {n = partialBytes p} refl)),
       (
-        map-fits (p .map) n (c .before .before .two-bits .result) (s .pre .0 .0 .below) (omega (arith, s .pre .0 .1)) (bits .1),
+        map-fits (p .map) n (c .before .before .two-bits .result) (s .pre .0 .0 .below) (omega (arith, s .pre .0 .2)) (bits .1),
         subst (λ (q : Partial). length (writePartial q) ≤ length (now (s .args .out))) (sym (cleared-is p n (n + (1 + s .args .a)) (bits .0))) (s .pre .1),
       ),
     )

@@ -10,7 +10,6 @@ use Rattle.facts.specs.WriteLaws.{wrote-inside, wrote-room, wrote-then}
 use Rattle.compilation.specs.Extend.{extend}
 use Rattle.compilation.specs.CompiledLengthLaws.{step-written}
 use Rattle.compile.specs.InPlace.{startIn}
-use Rattle.facts.specs.InPlaceLaws.{past-is}
 use Rattle.compile.specs.PutLaws.{wrote-start}
 use borrow.Author.Needs.{needs}
 use Rattle.compile.proofs.step.put_start.Statement.{statement}
@@ -31,38 +30,36 @@ fits : (c : tie.Start) → length (writePartial (pre c)) + 12 ≤ length (now (c
 fits c = omega (arith, c .pre .1, step-written (startIn (now (c .args .file)) (c .args .n) (c .args .a) (c .args .at)), length-written (pre c))
 
 put-cleared-requires : tie.Need-put-cleared-requires
-put-cleared-requires c κs = let s = c .before .before .before .before .before .before in ((s .pre .0 .0, s .pre .0 .2), omega (arith, fits s))
+put-cleared-requires c κs = let s = c .before .before .before .before in ((s .pre .0 .0, s .pre .0 .1, s .pre .0 .3), omega (arith, fits s))
 
 sub-put-two : tie.Need-sub-put-two
-sub-put-two c = wrote-inside (c .before .before .put-cleared .ensures) (omega (arith, fits (c .before .before .before .before .before .before .before .before .before)))
+sub-put-two c = wrote-inside (c .before .before .put-cleared .ensures) (omega (arith, fits (c .before .before .before .before .before .before .before)))
 
 part-put-two-start : tie.Need-part-put-two-start
-part-put-two-start c = wrote-inside (c .before .before .put-cleared .ensures) (omega (arith, fits (c .before .before .before .before .before .before .before .before .before)))
+part-put-two-start c = wrote-inside (c .before .before .put-cleared .ensures) (omega (arith, fits (c .before .before .before .before .before .before .before)))
 
 put-two-requires : tie.Need-put-two-requires
-put-two-requires c κs = let s = c .before .before .before .before .before .before .before .before .before .before in (omega (arith, s .pre .0 .2), s .pre .0 .2, wrote-room (c .before .before .before .put-cleared .ensures) (omega (arith, fits s)))
+put-two-requires c κs = let s = c .before .before .before .before .before .before .before .before in (omega (arith, s .pre .0 .3), s .pre .0 .3, wrote-room (c .before .before .before .put-cleared .ensures) (omega (arith, fits s)))
 
 add-eff : tie.Need-add-eff
-add-eff c = let s = c .before .before .before .before .before .before .before .before .before .before .before .before .before in omega (arith, fits s, eff-long s, c .before .before .before .before .before .before .put-cleared .ensures .count, c .before .before .put-two .ensures .count)
+add-eff c = let s = c .before .before .before .before .before .before .before .before .before .before .before in omega (arith, fits s, eff-long s, c .before .before .before .before .before .before .put-cleared .ensures .count, c .before .before .put-two .ensures .count)
 
 sub-put-word : tie.Need-sub-put-word
-sub-put-word c = let s = c .before .before .before .before .before .before .before .before .before .before .before .before .before in wrote-inside (wrote-then (c .before .before .before .before .before .before .put-cleared .ensures) (c .before .before .put-two .ensures)) (simp length-append (omega (arith, fits s, eff-long s)))
+sub-put-word c = let s = c .before .before .before .before .before .before .before .before .before .before .before in wrote-inside (wrote-then (c .before .before .before .before .before .before .put-cleared .ensures) (c .before .before .put-two .ensures)) (simp length-append (omega (arith, fits s, eff-long s)))
 
 part-put-word-start : tie.Need-part-put-word-start
-part-put-word-start c = let s = c .before .before .before .before .before .before .before .before .before .before .before .before .before in wrote-inside (wrote-then (c .before .before .before .before .before .before .put-cleared .ensures) (c .before .before .put-two .ensures)) (simp length-append (omega (arith, fits s, eff-long s)))
+part-put-word-start c = let s = c .before .before .before .before .before .before .before .before .before .before .before in wrote-inside (wrote-then (c .before .before .before .before .before .before .put-cleared .ensures) (c .before .before .put-two .ensures)) (simp length-append (omega (arith, fits s, eff-long s)))
 
 put-word-requires : tie.Need-put-word-requires
-put-word-requires c κs = let s = c .before .before .before .before .before .before .before .before .before .before .before .before .before .before in wrote-room (wrote-then (c .before .before .before .before .before .before .before .put-cleared .ensures) (c .before .before .before .put-two .ensures)) (simp length-append (omega (arith, fits s, eff-long s)))
+put-word-requires c κs = let s = c .before .before .before .before .before .before .before .before .before .before .before .before in wrote-room (wrote-then (c .before .before .before .before .before .before .before .put-cleared .ensures) (c .before .before .before .put-two .ensures)) (simp length-append (omega (arith, fits s, eff-long s)))
 
 add-result : tie.Need-add-result
-add-result c = let s = c .before .before .before .before .before .before .before .before .before .before .before .before .before .before .before .before .before in omega (arith, fits s, eff-long s, c .before .before .before .before .before .before .before .before .before .before .put-cleared .ensures .count, c .before .before .before .before .before .before .put-two .ensures .count, c .before .before .put-word .ensures .count)
+add-result c = let s = c .before .before .before .before .before .before .before .before .before .before .before .before .before .before .before in omega (arith, fits s, eff-long s, c .before .before .before .before .before .before .before .before .before .before .put-cleared .ensures .count, c .before .before .before .before .before .before .put-two .ensures .count, c .before .before .put-word .ensures .count)
 
 returns : tie.Need-returns
 returns c =
-    let a = c .before .before .before .before .before .before .before .before .before .before .before .before .before .before .before .before .before .args in
-    let first = c .before .before .before .before .before .before .before .before .before .before .before .before .before .before .length-at in
-    let second = c .before .before .before .before .before .before .before .before .before .before .before .before .before .length-at2 in
-    wrote-start (now (a .file)) (a .at) (a .n) (a .a) (past-is (now (a .file)) (a .at) (first .ensures .0)) (past-is (now (a .file)) (a .at + first .result) (second .ensures .0)) (c .before .before .before .before .before .before .before .before .before .before .before .before .word-at .ensures .0)
+    let s = c .before .before .before .before .before .before .before .before .before .before .before .before .before .before .before in
+    wrote-start (now (s .args .file)) (s .args .at) (s .args .n) (s .args .a) (s .pre .0 .2) (c .before .before .before .before .before .before .before .before .before .before .before .before .word-at .ensures .0)
     (wrote-then (wrote-then (c .before .before .before .before .before .before .before .before .before .before .put-cleared .ensures) (c .before .before .before .before .before .before .put-two .ensures)) (c .before .before .put-word .ensures))
 
 pub put-start-spec : {M : Type 1} → statement M
@@ -70,13 +67,9 @@ put-start-spec =
     tie.close
     (tie.spec
     (λ c κs. search needs)
-    (λ c. omega (arith, c .length-at .ensures .1, c .before .before .before .pre .0 .0 .fits))
-    (λ c κs. search needs)
-    (λ c. omega (arith, c .before .length-at .ensures .1, c .length-at2 .ensures .1, c .before .before .before .before .pre .0 .0 .fits))
-    (λ c κs. search needs)
     put-cleared-requires
-    (λ c. omega (arith, c .before .before .before .before .before .before .before .before .before .pre .0 .2))
-    (λ c. omega (arith, c .before .before .before .before .before .before .before .before .before .pre .0 .2))
+    (λ c. omega (arith, c .before .before .before .before .before .before .before .pre .0 .3))
+    (λ c. omega (arith, c .before .before .before .before .before .before .before .pre .0 .3))
     sub-put-two
     part-put-two-start
     (λ c. search needs)
