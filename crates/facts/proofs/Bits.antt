@@ -1,9 +1,10 @@
 -- Laws of the bits of a map: the lowest standing one, those below a variable, those past the variables.
-use mathlib.Core.Path.{_≡_, refl, ap, _∙_}
-use Prim.Native.Nat.{ℕ, zero, suc, _+_, _*_, _/_, _%_, _^_, _≤_, _<_}
-use native.Mathlib.Nat.{mul-le-mul-right, mod-lt, div-eq-of-lt, lt-of-not-le}
+use mathlib.Core.Path.{_≡_, refl, ap, ap₂, _∙_}
+use Prim.Native.Nat.{ℕ, zero, suc, _+_, _-_, _*_, _/_, _%_, _^_, _≤_, _<_}
+use native.Mathlib.Nat.{pow-suc, add-mul, mul-assoc, mod-self, mul-le-mul-right, mod-lt, div-eq-of-lt, lt-of-not-le}
 use native.Mathlib.Decide.{decLe}
 use native.Mathlib.Omega.{arith}
+use lib.Bits.{bitAnd, and-block, and-mask, and-self}
 use lib.Count.{trailingZeros, under}
 use lib.Pow.{split, pow-pos, pow-mono, shr-shr}
 use Rattle.facts.specs.Bits.{Lowest}
@@ -38,3 +39,13 @@ pub lowest-within : {m z a : ℕ} (k : ℕ) → Lowest m z a → m < 2 ^ k → z
 lowest-within {m} {z} {a} k l h =
     let low : 1 * 2 ^ z ≤ (2 * a + 1) * 2 ^ z = mul-le-mul-right (2 ^ z) (omega arith) in
     lt-of-not-le (λ g. let most = pow-mono g in absurd (omega (arith, l .bits)))
+
+-- the map without its lowest standing bit
+pub cleared : {m z a : ℕ} → Lowest m z a → bitAnd m (m - 1) ≡ 2 * a * 2 ^ z
+cleared {m} {z} {a} l =
+    let spread : (2 * a + 1) * 2 ^ z ≡ a * 2 ^ suc z + 2 ^ z = omega (arith, add-mul (2 * a) 1 (2 ^ z), mul-assoc 2 a (2 ^ z), doubled a z) in
+    let whole : m ≡ a * 2 ^ suc z + 2 ^ z = l .bits ∙ spread in
+    let less : m - 1 ≡ a * 2 ^ suc z + (2 ^ z - 1) = omega (arith, whole, pow-pos z) in
+    let up = pow-suc 2 z in
+    ap₂ bitAnd whole less ∙ and-block (suc z) a a (2 ^ z) (2 ^ z - 1) (omega (arith, pow-pos z, up)) (omega (arith, pow-pos z, up))
+    ∙ omega (arith, ap (λ (x : ℕ). x * 2 ^ suc z) (and-self a), and-mask (2 ^ z) z, mod-self (2 ^ z), doubled a z, mul-assoc 2 a (2 ^ z))

@@ -1,11 +1,13 @@
 -- Laws of the loops over the standing bits of a map: one for each way in which a turn can go. What is left of the map is m, from variable v
 -- on; its lowest standing bit is z variables further, and `above` is left above it.
 use mathlib.Core.Path.{_≡_, refl, ap, ap₂, _∙_}
-use Prim.Native.Nat.{ℕ, zero, suc, _+_, _*_, _/_, _%_, _≤_, _<_}
+use Prim.Native.Nat.{ℕ, zero, suc, _+_, _-_, _*_, _/_, _%_, _^_, _≤_, _<_}
+use native.Mathlib.Nat.{zero-add}
 use native.Mathlib.Numerals.{add-one}
 use native.Mathlib.Omega.{arith}
 use mathlib.Core.Bool.{Bool, true, false, _&&_}
 use mathlib.Core.List.{List, [], _∷_, _++_, append-nil, append-assoc}
+use lib.Bits.{bitAnd}
 use lib.Count.{ones, ones-step}
 use lib.Dec.{eqb}
 use lib.ListN.{length, getD, set, take, drop, drop-of-length-le, take-append-drop}
@@ -18,6 +20,7 @@ use Rattle.facts.specs.BitsLaws.{even-bit, even-half, odd-bit, odd-half,
 use Rattle.facts.specs.PartialLaws.{holds-empty, apply-empty}
 use Rattle.facts.specs.Fields.{standing, nextOf, readValue, readValues}
 use Rattle.facts.specs.EachLaws.{next-each}
+use Rattle.facts.proofs.Bits.{cleared}
 
 drop-one : (v : ℕ) (xs : List ℕ) → drop 1 (drop v xs) ≡ drop (suc v) xs
 drop-one v xs = drop-drop 1 v xs ∙ rw (add-one v)
@@ -31,14 +34,23 @@ standing-even m (d ∷ xs) = rw (even-bit m, even-half m, standing)
 standing-odd : (m d : ℕ) (xs : List ℕ) → standing (2 * m + 1) (d ∷ xs) ≡ d ∷ standing m xs
 standing-odd m d xs = rw (odd-bit m, odd-half m, standing)
 
-module _ (sizes : List ℕ) (v : ℕ) {m z a : ℕ} (e : Lowest m z a) where
-  standing-skip : standing m (drop v sizes) ≡ standing (2 * a + 1) (drop (v + z) sizes)
-  standing-skip = rw (e .bits) (skip (λ m v. standing m (drop v sizes)) (λ m v. standing-even m (drop v sizes) ∙ rw (drop-one v sizes)) z (2 * a + 1) v)
+-- the sizes of the standing bits of a map that has z zeros at its lower end
+standing-shift : (sizes : List ℕ) (m z : ℕ) → standing (m * 2 ^ z) sizes ≡ standing m (drop z sizes)
+standing-shift sizes m z =
+    skip (λ m v. standing m (drop v sizes)) (λ m v. standing-even m (drop v sizes) ∙ rw (drop-one v sizes)) z m 0
+    ∙ ap (λ (k : ℕ). standing m (drop k sizes)) (zero-add z)
 
-  pub standing-next : v + z < length sizes → standing m (drop v sizes) ≡ getD sizes (v + z) 0 ∷ standing a (drop (v + z + 1) sizes)
-  standing-next l = standing-skip ∙ rw (drop-cons sizes (v + z) 0 l, add-one (v + z)) (standing-odd a (getD sizes (v + z) 0) (drop (suc (v + z)) sizes))
+module _ (sizes : List ℕ) {m z a : ℕ} (e : Lowest m z a) where
+  standing-skip : standing m sizes ≡ standing (2 * a + 1) (drop z sizes)
+  standing-skip = rw (e .bits) (standing-shift sizes (2 * a + 1) z)
 
-  pub standing-over : length sizes ≤ v + z → standing m (drop v sizes) ≡ []
+  standing-cleared : standing (bitAnd m (m - 1)) sizes ≡ standing a (drop (suc z) sizes)
+  standing-cleared = ap (λ (k : ℕ). standing k sizes) (cleared e) ∙ standing-shift sizes (2 * a) z ∙ standing-even a (drop z sizes) ∙ rw (drop-one z sizes)
+
+  standing-next : z < length sizes → standing m sizes ≡ getD sizes z 0 ∷ standing (bitAnd m (m - 1)) sizes
+  standing-next l = standing-skip ∙ rw (drop-cons sizes z 0 l, standing-cleared) (standing-odd a (getD sizes z 0) (drop (suc z) sizes))
+
+  standing-over : length sizes ≤ z → standing m sizes ≡ []
   standing-over l = standing-skip ∙ rw (drop-of-length-le sizes l)
 
 pub standing-none : (xs : List ℕ) → standing 0 xs ≡ []
@@ -46,27 +58,27 @@ standing-none [] = refl
 standing-none (d ∷ xs) = standing-none xs
 
 -- what the loop that goes past the values is to answer from here
-abbrev pub Rest : List ℕ → List ℕ → ℕ → ℕ → ℕ → Read ℕ
-Rest f sizes m v at = nextOf (readValues f (standing m (drop v sizes)) at)
+abbrev pub Rest : List ℕ → List ℕ → ℕ → ℕ → Read ℕ
+Rest f sizes m at = nextOf (readValues f (standing m sizes) at)
 
-module _ (f sizes : List ℕ) (v : ℕ) {m z a : ℕ} (e : Lowest m z a) (at : ℕ) where
-  values-turn : v + z < length sizes → Rest f sizes m v at ≡ _>>=_ (nextOf (readValue f (getD sizes (v + z) 0) at)) (λ at. Rest f sizes a (v + z + 1) at)
+module _ (f sizes : List ℕ) {m z a : ℕ} (e : Lowest m z a) (at : ℕ) where
+  values-turn : z < length sizes → Rest f sizes m at ≡ _>>=_ (nextOf (readValue f (getD sizes z 0) at)) (λ at. Rest f sizes (bitAnd m (m - 1)) at)
   unfolding readValues
-  values-turn l = rw (standing-next sizes v e l) (next-each (readValue f) (getD sizes (v + z) 0) (standing a (drop (v + z + 1) sizes)) at)
+  values-turn l = rw (standing-next sizes e l) (next-each (readValue f) (getD sizes z 0) (standing (bitAnd m (m - 1)) sizes) at)
 
-  pub values-next : {q : ℕ} → v + z < length sizes → accepted q ≡ nextOf (readValue f (getD sizes (v + z) 0) at) → Rest f sizes m v at ≡ Rest f sizes a (v + z + 1) q
+  pub values-next : {q : ℕ} → z < length sizes → accepted q ≡ nextOf (readValue f (getD sizes z 0) at) → Rest f sizes m at ≡ Rest f sizes (bitAnd m (m - 1)) q
   values-next l h = values-turn l ∙ rw (← h)
 
-  pub values-refused : {n p : ℕ} → v + z < length sizes → refused n p ≡ nextOf (readValue f (getD sizes (v + z) 0) at) → Rest f sizes m v at ≡ refused n p
+  pub values-refused : {n p : ℕ} → z < length sizes → refused n p ≡ nextOf (readValue f (getD sizes z 0) at) → Rest f sizes m at ≡ refused n p
   values-refused l h = values-turn l ∙ rw (← h)
 
-  pub values-over : length sizes ≤ v + z → Rest f sizes m v at ≡ accepted at
+  pub values-over : length sizes ≤ z → Rest f sizes m at ≡ accepted at
   unfolding readValues
-  values-over l = rw (standing-over sizes v e l)
+  values-over l = rw (standing-over sizes e l)
 
-pub values-done : (f sizes : List ℕ) (v at : ℕ) {m : ℕ} → m ≡ 0 → Rest f sizes m v at ≡ accepted at
+pub values-done : (f sizes : List ℕ) (at : ℕ) {m : ℕ} → m ≡ 0 → Rest f sizes m at ≡ accepted at
 unfolding readValues
-values-done f sizes v at e = rw (e, standing-none (drop v sizes))
+values-done f sizes at e = rw (e, standing-none sizes)
 
 -- ---- a partial state in a state
 

@@ -129,16 +129,15 @@ pub fn value_end(file: &[u8], at: usize, size: u8) -> Past
     }
 }
 
-// Past the values for the standing bits of a map, from one standing bit to the next.
+// Past the values for the standing bits of a map, from one standing bit to the next: each turn takes the lowest one away.
 fn values_end(file: &[u8], from: usize, map: u64, sizes: &[u8]) -> Past
     ensures { λ r. ⌜ pastAnswer r ≡ nextOf (readValues (now (file .entry)) (standing map (now (sizes .entry))) from) ⌝ }
 {
     let mut at = from;
     let mut rest = map;
-    let mut v: usize = 0;
     while rest != 0 {
         let bit = lowest_bit(rest);
-        v += bit.zeros;
+        let v = bit.zeros;
         if sizes.len() <= v {
             return Past::Next(at);
         }
@@ -150,8 +149,7 @@ fn values_end(file: &[u8], from: usize, map: u64, sizes: &[u8]) -> Past
                 return Past::Refused(why);
             }
         }
-        rest = bit.above;
-        v += 1;
+        rest = rest & (rest - 1);
     }
     Past::Next(at)
 }
