@@ -1,22 +1,20 @@
 -- Laws of how many steps the actions of a task have, and how many bytes: counted one action at a time.
 use mathlib.Core.Path.{_≡_, refl, sym, ap, _∙_}
-use Prim.Native.Nat.{ℕ, suc, _+_, _*_, _-_, _≤_, _<_, min}
+use Prim.Native.Nat.{ℕ, _+_, _*_, _-_, _≤_, _<_, min}
 use native.Mathlib.Omega.{arith}
-use native.Mathlib.Numerals.{add-one}
-use mathlib.Core.List.{List, [], _∷_, _++_}
+use mathlib.Core.List.{List, [], _++_}
 use lib.Count.{ones-le}
 use lib.ListN.{length, getD, take, drop, length-append}
 use Rattle.facts.specs.Lists.{total}
 use Rattle.facts.specs.Partial.{partialBytes, partialAt, pastPartial}
 use Rattle.facts.specs.InPlaceLaws.{past-is}
-use Rattle.taskfile.specs.Task.{Action}
 use Rattle.taskfile.specs.WalkInPlace.{incomingPlace, nodeCount}
 use Rattle.taskfile.specs.MoveInPlaceLaws.{own-nodes}
 use Rattle.probe.specs.Probe.{Step}
-use Rattle.compilation.specs.Compile.{flat, actionSteps, edgeCount}
+use Rattle.compilation.specs.Compile.{actionSteps, edgeCount}
 use Rattle.compilation.specs.StepLaws.{total-append, action-length}
 use Rattle.compilation.specs.CompiledLengthLaws.{stepBytes, action-total}
-use Rattle.taskfile.specs.PartsInPlace.{nodesIn, actionIn, actionsIn, Stood}
+use Rattle.taskfile.specs.PartsInPlace.{nodesIn, actionIn, Stood}
 use Rattle.compile.specs.InPlace.{Weighs}
 use Rattle.compile.specs.PutLaws.{standing-long}
 use Rattle.compile.specs.InPlaceLaws.{stepsLeft, left-next}

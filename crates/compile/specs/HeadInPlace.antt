@@ -1,8 +1,7 @@
 -- The head of the probe file of a task, from the bytes of an accepted task file with n variables.
 use Prim.Native.Nat.{ℕ, suc, _+_, _*_}
-use mathlib.Core.List.{List, [], _∷_, _++_, map}
+use mathlib.Core.List.{List, _∷_, _++_, map}
 use lib.ListN.{length, take, drop, replicate}
-use Rattle.facts.specs.Bytes.{bytesOf}
 use Rattle.facts.specs.Partial.{Partial, partialAt, writePartial}
 use Rattle.taskfile.specs.WalkInPlace.{nodeCount}
 use Rattle.compilation.specs.Extend.{clear}

@@ -6,7 +6,7 @@ use lib.Dec.{leb}
 use lib.ListN.{length, take}
 use borrow.Author.Tests.{le-leb, leb-true}
 use Rattle.facts.specs.Read.{Read, accepted, refused, check, withValue, _>>=_}
-use Rattle.facts.specs.ReadLaws.{through, checked, agree}
+use Rattle.facts.specs.ReadLaws.{through, checked}
 use Rattle.taskfile.specs.Task.{Task, maxBytes}
 use Rattle.taskfile.specs.TaskFile.{readTask}
 use Rattle.taskfile.specs.FrontLaws.{front-enough}

@@ -8,13 +8,12 @@ use native.Mathlib.Omega.{arith}
 use mathlib.Core.Bool.{Bool, true, false, _&&_}
 use mathlib.Core.List.{List, [], _∷_, _++_, append-nil, append-assoc}
 use lib.Bits.{bitAnd}
-use lib.Count.{ones, ones-step}
 use lib.Dec.{eqb}
 use lib.ListN.{length, getD, set, take, drop, drop-of-length-le, take-append-drop}
-use lib.Seq.{drop-cons, drop-drop, take-nil, take-add, take-suc-set, drop-set-lt, append-snoc, take-all}
+use lib.Seq.{drop-cons, drop-drop, take-add, take-suc-set, drop-set-lt, append-snoc, take-all}
 use borrow.Author.Tests.{eq-eqb, ne-eqb}
 use Rattle.facts.specs.Read.{Read, accepted, refused, _>>=_}
-use Rattle.facts.specs.Partial.{Partial, agrees, after, rest, above, holds, apply, empty, standingAt}
+use Rattle.facts.specs.Partial.{Partial, agrees, after, rest, above, holds, apply, standingAt}
 use Rattle.facts.specs.Bits.{Lowest}
 use Rattle.facts.specs.BitsLaws.{even-bit, even-half, odd-bit, odd-half, skip, first-even, first-odd, first-cut, above-even, above-odd, no-bits, cut-values}
 use Rattle.facts.specs.PartialLaws.{holds-empty, apply-empty}

@@ -1,6 +1,6 @@
 -- Laws of the standing bits of a map, for loops that go from one to the next: zeros below a bit change nothing, and what a partial state in
 -- place is at its first variable and above it.
-use mathlib.Core.Path.{_≡_, refl, ap, ap₂, _∙_}
+use mathlib.Core.Path.{_≡_, refl, ap₂, _∙_}
 use Prim.Native.Nat.{ℕ, zero, suc, _+_, _*_, _/_, _%_, _^_, _≤_, _<_}
 use native.Mathlib.Nat.{pow-suc, mul-assoc}
 use native.Mathlib.Numerals.{add-one}

@@ -1,17 +1,13 @@
 -- Laws of reading an operator: the ways in which it can go, and what an accepted one is.
 use mathlib.Core.Path.{_≡_, refl, ap, _∙_}
-use Prim.Native.Nat.{ℕ, _+_, _≤_}
-use native.Mathlib.Omega.{arith}
+use Prim.Native.Nat.{ℕ, _+_}
 use mathlib.Core.Bool.{true}
 use mathlib.Core.List.{List}
-use lib.ListN.{length}
-use Rattle.facts.specs.Read.{Read, accepted, refused, _>>=_}
+use Rattle.facts.specs.Read.{accepted, refused, _>>=_}
 use Rattle.facts.specs.ReadLaws.{through, made, not-made, carried}
-use Rattle.facts.specs.Bytes.{Bytes}
 use Rattle.facts.specs.Partial.{Partial}
-use Rattle.facts.specs.WellFormed.{WfPartial}
 use Rattle.facts.specs.Fields.{nextOf, Operator, readNumber, readWeight, readPartial, readOperator}
-use Rattle.facts.specs.FieldLaws.{field-refused, field-good, Weighed, weight-read, weight-most}
+use Rattle.facts.specs.FieldLaws.{field-refused, field-good, Weighed, weight-read}
 use Rattle.facts.specs.PartialReadLaws.{Partial-read, partial-read}
 
 module _ (f sizes : List ℕ) (at : ℕ) where
