@@ -36,13 +36,13 @@ and-false true = refl
 and-false false = refl
 
 pub set-empty : (size set : ℕ) → set ≡ 0 → goodSet size set ≡ false
-set-empty size set e = rw (le-ltb 0 set (omega arith))
+set-empty size set e = ap (λ (b : Bool). b && ltb set (2 ^ size)) (le-ltb 0 set (omega arith))
 
 pub set-stray : (size set : ℕ) → 2 ^ size ≤ set → goodSet size set ≡ false
-set-stray size set h = rw (le-ltb set (2 ^ size) h) (and-false (ltb 0 set))
+set-stray size set h = ap (_&&_ (ltb 0 set)) (le-ltb set (2 ^ size) h) ∙ and-false (ltb 0 set)
 
 pub set-good : (size set : ℕ) → (set ≡ 0 → ⊥) → set < 2 ^ size → goodSet size set ≡ true
-set-good size set some h = rw (lt-ltb 0 set (omega (arith, some)), lt-ltb set (2 ^ size) h)
+set-good size set some h = ap₂ _&&_ (lt-ltb 0 set (omega (arith, some))) (lt-ltb set (2 ^ size) h)
 
 set-inside : (size set : ℕ) → goodSet size set ≡ true → SetInside size set
 set-inside size set h =
