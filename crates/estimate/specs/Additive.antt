@@ -1,5 +1,6 @@
 -- The additive heuristic, document 01's estimate: rounds over any actions. Document 01, "Relaxed cost and estimate".
-use Prim.Native.Nat.{ℕ, zero, suc, _%_}
+use mathlib.Core.Path.{_≡_}
+use Prim.Native.Nat.{ℕ, zero, suc, _%_, _<_}
 use mathlib.Core.Bool.{Bool, true, false}
 use mathlib.Core.List.{List, [], _∷_, _++_, map}
 use lib.Dec.{eqb}
@@ -8,6 +9,7 @@ use Rattle.facts.specs.Read.{Read, accepted, _>>=_}
 use Rattle.facts.specs.Lists.{upFrom, total}
 use Rattle.facts.specs.Partial.{Partial, above}
 use Rattle.facts.specs.State.{checkState}
+use Rattle.facts.specs.WellFormed.{WfPartial}
 use Rattle.estimate.specs.Number.{Number, exact, never, sum, lesser}
 use Rattle.estimate.specs.Facts.{startNumber}
 use Rattle.estimate.specs.Rounds.{roundOf, settled}
@@ -86,6 +88,11 @@ offerOf n of a = record { effect = a .eff; number = sum (sumFrom of 0 n (a .pre)
 -- the offers of several
 abbrev pub offersBy : ℕ → (ℕ → ℕ → Number) → List Achiever → List Offer
 offersBy n of achievers = map (offerOf n of) achievers
+
+-- its precondition and its cost are about facts of the file alone: `d < getD sizes v 0` says that variable v can have the value d
+pub record WfAchiever (sizes : List ℕ) (a : Achiever) : Type 0 where
+  pub pre : WfPartial sizes (a .pre)
+  pub cost : (of new : ℕ → ℕ → Number) → ((v d : ℕ) → d < getD sizes v 0 → of v d ≡ new v d) → a .cost of ≡ a .cost new
 
 -- ---- rounds
 

@@ -24,18 +24,15 @@ use Rattle.estimate.specs.ListedLaws.{listed-length, factPlace, fact-pla
 
 -- ---- a round
 
--- the number of a fact after some offers
-abbrev pub afterOffers : (ℕ → ℕ → Number) → List Offer → ℕ → ℕ → Number
-afterOffers of offers v d = lesser (of v d) (offered offers v d)
-
 -- it keeps the length
 pub round-length : (sizes : List ℕ) (achievers : List Achiever) (numbers : List Number) → length (additiveRound sizes achievers numbers) ≡ length numbers
 unfolding additiveRound
 round-length sizes achievers numbers = lowered-length numbers (offersOf sizes achievers numbers)
 
--- for a fact of the file it gives what is there after the offers of all achievers
+-- for a fact of the file it gives the lesser of its old number and what all achievers offer
 pub round-at : (sizes : List ℕ) (achievers : List Achiever) (numbers : List Number) → length numbers ≡ factCount sizes → (v d : ℕ) → d < getD sizes v 0
-    → factNumber sizes (additiveRound sizes achievers numbers) v d ≡ afterOffers (factNumber sizes numbers) (offersBy (length sizes) (factNumber sizes numbers) achievers) v d
+    → factNumber sizes (additiveRound sizes achievers numbers) v d
+    ≡ lesser (factNumber sizes numbers v d) (offered (offersBy (length sizes) (factNumber sizes numbers) achievers) v d)
 unfolding additiveRound
 round-at sizes achievers numbers e v d l =
     let offers = offersBy (length sizes) (factNumber sizes numbers) achievers in

@@ -15,6 +15,7 @@ pub mod ListedLaws
 pub mod AdditiveLaws
 pub mod RanksLaws
 pub mod OfferLaws
+pub mod LoopLaws
 -- How many rounds there are.
 pub mod FallLaws
 pub mod RoundBound

@@ -17,9 +17,9 @@ use Rattle.facts.specs.Partial.{Partial, rest, above, empty, standingAt, partia
 use Rattle.estimate.specs.Number.{Number, exact, never, sum, lesser, WithinCap}
 use Rattle.estimate.specs.NumberLaws.{sum-zero, sum-comm, sum-assoc, sum-within, lesser-never, lesser-assoc}
 use Rattle.estimate.specs.Facts.{mostVariables}
-use Rattle.estimate.specs.Additive.{hasValue, has, withNumber, sumFrom, offeredBy}
+use Rattle.estimate.specs.Additive.{hasValue, withNumber, sumFrom, Offer, offeredBy, offered}
 use Rattle.estimate.specs.ListedLaws.{sum-from-within}
-use Rattle.estimate.specs.Ranks.{rankNumber, Room, HasRanks, afterOffer, offeredTo, afterFact}
+use Rattle.estimate.specs.Ranks.{rankNumber, Room, HasRanks, afterOffer, afterOffers, offeredTo, afterFact}
 
 -- ---- the sum
 
@@ -195,7 +195,7 @@ module _ (offer : Number) where
 pub record Offering (offer : Number) (f : List ℕ) (m at u : ℕ) (whole : ℕ → ℕ → Number) (ranks : List ℕ) : Type 0 where
   pub left : (v d : ℕ) → Room (length ranks) v d → lesser (rankNumber ranks v d) (offeredFrom offer u (standingAt f m at) v d) ≡ whole v d
 
-pub offering-start : (offer : Number) (f : List ℕ) (m at : ℕ) (ranks : List ℕ) → Offering offer f m at 0 (afterOffer offer (standingAt f m at) (rankNumber ranks)) ranks
+pub offering-start : (offer : Number) (f : List ℕ) (m at : ℕ) (ranks : List ℕ) → Offering offer f m at 0 (afterOffer (record { effect = standingAt f m at; number = offer }) (rankNumber ranks)) ranks
 unfolding afterOffer
 offering-start offer f m at ranks = record { left = λ v d r. refl }
 
@@ -232,12 +232,37 @@ module _ {offer : Number} {f : List ℕ} {m at u : ℕ} {whole : ℕ → ℕ →
         }
 
 -- no facts, no offers
-pub offer-empty : (offer : Number) (ranks : List ℕ) {p : Partial} → p ≡ empty → HasRanks ranks (afterOffer offer p (rankNumber ranks))
+pub offer-empty : (offer : Number) (ranks : List ℕ) {p : Partial} → p ≡ empty → HasRanks ranks (afterOffer (record { effect = p; number = offer }) (rankNumber ranks))
 unfolding afterOffer
 offer-empty offer ranks e =
     record { at = λ v d r. sym (ap (lesser (rankNumber ranks v d)) (ap (λ (p : Partial). offeredFrom offer 0 p v d) e ∙ offered-no-values offer 0 v d) ∙ lesser-never (rankNumber ranks v d)) }
 
--- the offer by its rank, to a partial state as it stands
-pub offer-at : (of : ℕ → ℕ → Number) {offer given : Number} {p q : Partial} {ranks : List ℕ} → p ≡ q → given ≡ offer → HasRanks ranks (afterOffer given q of) → HasRanks ranks (afterOffer offer p of)
-offer-at of {offer} {given} {p} {q} {ranks} e o h =
-    subst (λ (x : Partial). HasRanks ranks (afterOffer offer x of)) (sym e) (subst (λ (n : Number). HasRanks ranks (afterOffer n q of)) o h)
+-- an offer as it stands
+pub offer-same : {o other : Offer} (of : ℕ → ℕ → Number) {ranks : List ℕ} → other .effect ≡ o .effect → other .number ≡ o .number → HasRanks ranks (afterOffer o of) → HasRanks ranks (afterOffer other of)
+offer-same {o} {other} of {ranks} e n h =
+    subst (λ (p : Partial). HasRanks ranks (afterOffer (record { effect = p; number = other .number }) of)) (sym e)
+    (subst (λ (a : Number). HasRanks ranks (afterOffer (record { effect = o .effect; number = a }) of)) (sym n) h)
+
+-- ---- offers one after the other
+
+-- the offers that are left make the whole of the numbers of these ranks
+pub record Heard (offers : List Offer) (whole : ℕ → ℕ → Number) (ranks : List ℕ) : Type 0 where
+  pub left : (v d : ℕ) → Room (length ranks) v d → lesser (rankNumber ranks v d) (offered offers v d) ≡ whole v d
+
+pub heard-none : (offers : List Offer) (ranks : List ℕ) → Heard offers (afterOffers offers (rankNumber ranks)) ranks
+unfolding afterOffers
+heard-none offers ranks = record { left = λ v d r. refl }
+
+pub heard-more : {o : Offer} {offers : List Offer} {whole : ℕ → ℕ → Number} {ranks next : List ℕ} → Heard (o ∷ offers) whole ranks → length next ≡ length ranks
+    → HasRanks next (afterOffer o (rankNumber ranks)) → Heard offers whole next
+unfolding afterOffer
+heard-more {o} {offers} {whole} {ranks} g same lowered =
+    record {
+      left = λ v d r.
+          ap (λ a. lesser a (offered offers v d)) (lowered .at v d r)
+          ∙ lesser-assoc (rankNumber ranks v d) (offeredBy o v d) (offered offers v d)
+          ∙ g .left v d (record { variable = r .variable; value = r .value; place = omega (arith, r .place) });
+    }
+
+pub heard-all : {whole : ℕ → ℕ → Number} {ranks : List ℕ} → Heard [] whole ranks → HasRanks ranks whole
+heard-all {whole} {ranks} g = record { at = λ v d r. sym (lesser-never (rankNumber ranks v d)) ∙ g .left v d r }

@@ -5,10 +5,9 @@ use mathlib.Core.Bool.{Bool, true, false, _&&_}
 use mathlib.Core.List.{List}
 use lib.Dec.{ltb, eqb}
 use lib.ListN.{length, getD}
-use Rattle.facts.specs.Partial.{Partial}
 use Rattle.estimate.specs.Number.{Number, never, lesser, rank, ranked}
 use Rattle.estimate.specs.Facts.{mostVariables, mostValues, factIndex}
-use Rattle.estimate.specs.Additive.{listed, offeredBy}
+use Rattle.estimate.specs.Additive.{listed, Offer, offeredBy, offered}
 
 -- the number of the fact that variable v has the value d; never, where a list of ranks has none for it
 unfoldable pub rankNumber : List ℕ → ℕ → ℕ → Number
@@ -34,9 +33,13 @@ pub record HasRanks (ranks : List ℕ) (of : ℕ → ℕ → Number) : Type 0 wh
 
 -- ---- what is offered
 
--- the numbers after a number is offered to each fact of an effect
-unfoldable pub afterOffer : Number → Partial → (ℕ → ℕ → Number) → ℕ → ℕ → Number
-afterOffer offer effect of v d = lesser (of v d) (offeredBy (record { effect = effect; number = offer }) v d)
+-- the numbers after an offer
+unfoldable pub afterOffer : Offer → (ℕ → ℕ → Number) → ℕ → ℕ → Number
+afterOffer o of v d = lesser (of v d) (offeredBy o v d)
+
+-- the numbers after several
+unfoldable pub afterOffers : List Offer → (ℕ → ℕ → Number) → ℕ → ℕ → Number
+afterOffers offers of v d = lesser (of v d) (offered offers v d)
 
 -- what a number that is offered to variable u with the value x is to variable v with the value d
 abbrev pub offeredTo : Number → ℕ → ℕ → ℕ → ℕ → Number

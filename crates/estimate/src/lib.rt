@@ -90,10 +90,12 @@ pub fn same(a: Est, b: Est) -> bool
     }
 }
 
-// The array of facts has room for so many variables, and for so many values of each.
+// The array of facts has room for so many variables, for so many values of each, and for so many facts.
 pub const VARIABLES: usize = 57;
 
 pub const VALUES: usize = 66;
+
+pub const FACTS: usize = 3762;
 
 // The numbers with which the estimate from a state starts, at variable times 66 plus value: 0 for the facts of the state, else never. Past 57
 // variables and past 66 values nothing is set.

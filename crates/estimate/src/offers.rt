@@ -49,7 +49,7 @@ fn values_sum(file: &[u8], from: usize, map: u64, n: usize, ranks: &[u64]) -> Es
 
 // Offers a number to each fact of the partial state at an offset, which then has the lesser of its own and the offer.
 pub fn lower_at(file: &[u8], at: usize, offer: Est, ranks: &mut [u64])
-    ensures { λ r. ⌜ HasRanks (now (ranks .exit)) (afterOffer (number offer) (partialAt (now (file .entry)) at) (rankNumber (now (ranks .entry)))) ⌝ }
+    ensures { λ r. ⌜ HasRanks (now (ranks .exit)) (afterOffer (record { effect = partialAt (now (file .entry)) at; number = number offer }) (rankNumber (now (ranks .entry)))) ⌝ }
 {
     match facts::number::read_map(file, at) {
         Field::Refused(_) => {}
@@ -59,7 +59,7 @@ pub fn lower_at(file: &[u8], at: usize, offer: Est, ranks: &mut [u64])
 
 // The same for the values from an offset on, for the standing bits of a map; the offer is lent by its rank.
 fn values_lowered(file: &[u8], from: usize, map: u64, offer: u64, ranks: &mut [u64])
-    ensures { λ r. ⌜ HasRanks (now (ranks .exit)) (afterOffer (ranked offer) (standingAt (now (file .entry)) map from) (rankNumber (now (ranks .entry)))) ⌝ }
+    ensures { λ r. ⌜ HasRanks (now (ranks .exit)) (afterOffer (record { effect = standingAt (now (file .entry)) map from; number = ranked offer }) (rankNumber (now (ranks .entry)))) ⌝ }
 {
     let mut at = from;
     let mut rest = map;

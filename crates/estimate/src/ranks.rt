@@ -1,6 +1,7 @@
 // The numbers of all facts, lent as ranks: a number's rank is how many numbers are less than it. Ranks stand at variable times 66 plus value, as in
 // the array of `start`. Past the end of a slice nothing is read or set.
 use crate::Est;
+use crate::FACTS;
 use crate::LARGEST;
 use crate::VALUES;
 use crate::VARIABLES;
@@ -84,7 +85,7 @@ pub fn start_ranks(state: &[u8], ranks: &mut [u64])
     ensures { λ r. ⌜ HasRanks (now (ranks .exit)) (startNumber (now (state .entry))) ⌝ }
 {
     let numbers = crate::start(state);
-    for i in 0..3762 {
+    for i in 0..FACTS {
         if ranks.len() <= i {
             return;
         }

@@ -1,11 +1,19 @@
 -- The estimate of a probe file from a state. Document 01, "Relaxed cost and estimate": "For a probe file the same, with fixed costs."
-use Prim.Native.Nat.{ℕ}
+use mathlib.Core.Path.{_≡_}
+use Prim.Native.Nat.{ℕ, _+_, _*_, _≤_}
 use mathlib.Core.List.{List, map}
-use Rattle.facts.specs.Read.{Read}
+use lib.ListN.{length, take, drop}
+use Rattle.facts.specs.Read.{Read, accepted}
+use Rattle.facts.specs.Lists.{All}
+use Rattle.facts.specs.Partial.{partialAt}
+use Rattle.facts.specs.WellFormed.{WfPartial}
 use Rattle.estimate.specs.Number.{Number, exact}
-use Rattle.estimate.specs.Additive.{Achiever, additive, estimateFile}
+use Rattle.estimate.specs.Additive.{Achiever, WfAchiever, additive, estimateFile}
+use Rattle.estimate.specs.Facts.{mostFacts}
+use Rattle.estimate.specs.Ranks.{Roomy}
 use Rattle.probe.specs.Probe.{Step, Probe}
 use Rattle.probe.specs.ProbeFile.{readProbe}
+use Rattle.probe.specs.InPlace.{stepAt, Within}
 
 -- a step for the heuristic
 abbrev pub stepAchiever : Step → Achiever
@@ -18,3 +26,26 @@ probeEstimate p s = additive (p .sizes) (map stepAchiever (p .steps)) (p .goal) 
 -- the operation: 1 to 5 for the file, then 12 and 4 for the state
 abbrev pub estimateProbe : List ℕ → List ℕ → Read Number
 estimateProbe f s = estimateFile (λ p. p .sizes) probeEstimate (readProbe f) s
+
+-- ---- in place
+
+-- the step at an offset, for the heuristic
+abbrev pub achieverAt : List ℕ → ℕ → Achiever
+achieverAt f at = stepAchiever (stepAt f at)
+
+-- domain sizes, goal and steps as they stand in a file, well-formed, so that rounds end on their estimate
+pub record Ready (f sizes : List ℕ) (goal : ℕ) (offsets : List ℕ) : Type 0 where
+  pub room : Roomy sizes mostFacts
+  pub within : Within f offsets
+  pub steps : All (WfAchiever sizes) (map (achieverAt f) offsets)
+  pub goal-is : WfPartial sizes (partialAt f goal)
+
+-- a file that is accepted, with so many variables, and the offset of each of its steps
+pub record InPlace (f : List ℕ) (variables : ℕ) (offsets : List ℕ) : Type 0 where
+  pub probe : Probe
+  pub reads : readProbe f ≡ accepted probe
+  pub fits : 1 + 2 * variables ≤ length f
+  pub sizes : take variables (drop 1 f) ≡ probe .sizes
+  pub goal : partialAt f (1 + 2 * variables) ≡ probe .goal
+  pub steps : map (stepAt f) offsets ≡ probe .steps
+  pub within : Within f offsets

@@ -1,7 +1,9 @@
-// Probe files: checked and run. Nothing here knows of tasks or diagrams.
+// Probe files: checked, run and estimated. Nothing here knows of tasks or diagrams.
 mod index;
+mod rounds;
 mod step;
 
+use estimate::Estimated;
 use facts::Applied;
 use facts::Checked;
 use facts::Ran;
@@ -13,7 +15,9 @@ ghost use Rattle.facts.specs.Answers.{checkedAnswer, ranAnswer};
 ghost use Rattle.facts.specs.Partial.{partialAt};
 ghost use Rattle.facts.specs.Run.{runFrom};
 ghost use Rattle.probe.specs.ProbeFile.{checkProbe, runProbe};
+ghost use Rattle.estimate.specs.Answers.{estimatedAnswer};
 ghost use Rattle.probe.specs.InPlace.{moveAt, Within};
+ghost use Rattle.probe.specs.Estimate.{estimateProbe, InPlace};
 
 // A probe file: its limits.
 pub struct Probe {}
@@ -57,6 +61,32 @@ pub fn run(file: &[u8], list: &[u16]) -> Ran
                 return Ran::Refused(Refusal::Long(Probe::MAX_LIST));
             }
             run_from_start(file, variables, &offsets[..steps], list)
+        }
+    }
+}
+
+// The estimate from a state: the file's refusals, then 12 and 4 for the state.
+pub fn estimate(file: &[u8], state: &[u8]) -> Estimated
+    ensures { λ r. ⌜ estimatedAnswer r ≡ estimateProbe (now (file .entry)) (now (state .entry)) ⌝ }
+{
+    let mut offsets = [0; Probe::MAX_STEPS];
+    match index::index(file, &mut offsets) {
+        Indexed::Refused(why) => Estimated::Refused(why),
+        Indexed::Steps(variables, steps) => estimate_from(file, variables, &offsets[..steps], state),
+    }
+}
+
+// The same for an accepted file: `offsets` has the offset of each step.
+fn estimate_from(file: &[u8], variables: usize, offsets: &[usize], state: &[u8]) -> Estimated
+    requires { ⌜ InPlace (now file) variables (now offsets) ⌝ }
+    ensures { λ r. ⌜ estimatedAnswer r ≡ estimateProbe (now (file .entry)) (now (state .entry)) ⌝ }
+{
+    let init = 1 + variables;
+    match facts::state::check_state(&file[1..init], state) {
+        Checked::Refused(why) => Estimated::Refused(why),
+        Checked::Accepted => {
+            let goal = init + variables;
+            Estimated::Number(rounds::settle(file, &file[1..init], goal, offsets, state))
         }
     }
 }

@@ -8,7 +8,7 @@ use Rattle.facts.specs.Answers.{fieldAnswer}
 use Rattle.facts.specs.Fields.{readNumber}
 use Rattle.facts.specs.FieldLaws.{number-read}
 use Rattle.facts.specs.InPlaceLaws.{standing-read, empty-read}
-use Rattle.estimate.specs.OfferLaws.{offer-empty, offer-at}
+use Rattle.estimate.specs.OfferLaws.{offer-empty, offer-same}
 use Rattle.estimate.proofs.offers.lower_at.Statement.{statement}
 use Rattle.estimate.proofs.offers.lower_at.Tie as tie
 
@@ -32,4 +32,4 @@ lower-at-spec =
     (λ c.
     let call = c .before .before in
     let map = call .before .before .before .before in
-    offer-at _ (standing-read _ _ (map-is map)) (call .before .before .rank .ensures) (call .values-lowered .ensures)))
+    offer-same _ (standing-read _ _ (map-is map)) (sym (call .before .before .rank .ensures)) (call .values-lowered .ensures)))

@@ -14,7 +14,7 @@ use Rattle.estimate.proofs.offers.values_lowered.Tie as tie
 
 abbrev Inv-loop : tie.InvT-loop
 Inv-loop file from map offer ranks₀ at₀ rest₀ v₀ ranks at rest v =
-    (v ≤ mostVariables) × (length ranks ≡ length ranks₀) × Offering (ranked offer) file rest at v (afterOffer (ranked offer) (standingAt file map from) (rankNumber ranks₀)) ranks
+    (v ≤ mostVariables) × (length ranks ≡ length ranks₀) × Offering (ranked offer) file rest at v (afterOffer (record { effect = standingAt file map from; number = ranked offer }) (rankNumber ranks₀)) ranks
 
 abbrev μ-loop : tie.MeasureT-loop
 μ-loop file from map offer ranks₀ at₀ rest₀ v₀ ranks at rest v = mostVariables - v
