@@ -3,7 +3,7 @@
 use mathlib.Core.Path.{_≡_, refl, sym, ap, ap₂, _∙_}
 use mathlib.Core.Logic.{_≢_}
 use mathlib.Core.Bool.{Bool, true, false}
-use Prim.Native.Nat.{ℕ, zero, suc, _+_, _≤_, _<_}
+use Prim.Native.Nat.{ℕ, zero, suc, _<_}
 use native.Mathlib.Omega.{arith}
 use mathlib.Core.List.{List, [], _∷_}
 use lib.Dec.{eqb}
@@ -14,7 +14,7 @@ use Rattle.facts.specs.Lists.{total, All}
 use Rattle.facts.specs.Partial.{Partial}
 use Rattle.facts.specs.State.{Inside, checkState}
 use Rattle.facts.specs.PartialLaws.{inside-length, inside-at}
-use Rattle.estimate.specs.Number.{Number, exact, never, sum, lesser, WithinCap, rank}
+use Rattle.estimate.specs.Number.{Number, exact, never, lesser, WithinCap, rank}
 use Rattle.estimate.specs.NumberLaws.{sum-within, lesser-within}
 use Rattle.estimate.specs.Facts.{startNumber}
 use Rattle.estimate.specs.Rounds.{lowered, roundOf, settled, Lowering}

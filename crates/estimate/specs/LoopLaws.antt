@@ -11,10 +11,10 @@ use Rattle.facts.specs.Partial.{Partial}
 use Rattle.facts.specs.WellFormed.{WfPartial}
 use Rattle.estimate.specs.Number.{Number, sum, lesser, rank}
 use Rattle.estimate.specs.Facts.{mostVariables, mostValues, mostFacts, startNumber}
-use Rattle.estimate.specs.Additive.{listed, factNumber, sumFrom, Offer, offered, Achiever, offerOf, offersBy, WfAchiever, additiveRound, startNumbers, additive}
-use Rattle.estimate.specs.ListedLaws.{fact-variable, fact-listed, listed-is, listed-same, listed-agree, listed-length, facts-sum-same}
+use Rattle.estimate.specs.Additive.{factNumber, sumFrom, Offer, offered, Achiever, offersBy, WfAchiever, additiveRound, startNumbers, additive}
+use Rattle.estimate.specs.ListedLaws.{fact-variable, fact-listed, listed-is, listed-same, listed-agree, facts-sum-same}
 use Rattle.estimate.specs.AdditiveLaws.{round-length, round-at, Settling, settling-start, settling-on, settling-end, settling-falls, additive-sum}
-use Rattle.estimate.specs.Ranks.{rankNumber, rankList, Room, Roomy, HasRanks, afterOffers, TakenOver}
+use Rattle.estimate.specs.Ranks.{rankNumber, rankList, Roomy, HasRanks, afterOffers, TakenOver}
 
 -- ---- room
 
@@ -22,6 +22,10 @@ sizes-at : (most : ℕ) (sizes : List ℕ) → All (λ n. (2 ≤ n) × (n ≤ mo
 sizes-at most [] h v = omega arith
 sizes-at most (n ∷ sizes) h zero = h .0 .1
 sizes-at most (n ∷ sizes) h (suc v) = sizes-at most sizes (h .1) v
+
+-- as many ranks as others
+pub roomy-same : {sizes : List ℕ} {count others : ℕ} → Roomy sizes count → others ≡ count → Roomy sizes others
+roomy-same {sizes} r e = subst (Roomy sizes) (sym e) r
 
 -- an array of facts has room for all facts of a file within its limits
 pub roomy : {most variables count : ℕ} (sizes : List ℕ) → length sizes ≤ variables → variables ≤ mostVariables → All (λ n. (2 ≤ n) × (n ≤ most)) sizes → most ≤ mostValues

@@ -1,19 +1,17 @@
 -- Laws of the loops over the standing bits of a partial state in place: the sum of its facts' numbers, and what is offered to its facts. What is
 -- left of the map is m, from variable v on; its lowest standing bit is z variables further, and `above` is left above it.
 use mathlib.Core.Path.{_≡_, refl, sym, ap, ap₂, _∙_, subst}
-use mathlib.Core.Bool.{Bool, true, false}
+use mathlib.Core.Bool.{true, false}
 use Prim.Native.Nat.{ℕ, zero, suc, _+_, _*_, _-_, _/_, _%_, _≤_, _<_}
 use native.Mathlib.Nat.{lt-of-not-le}
 use native.Mathlib.Decide.{decLe}
 use native.Mathlib.Numerals.{add-one}
 use native.Mathlib.Omega.{arith}
 use mathlib.Core.List.{List, [], _∷_}
-use lib.Count.{ones}
-use lib.Dec.{eqb}
-use lib.ListN.{length, getD, take, drop}
+use lib.ListN.{length, getD}
 use Rattle.facts.specs.Bits.{Lowest}
-use Rattle.facts.specs.BitsLaws.{skip, first-even, first-odd, first-cut, above-even, above-odd, cut-values, no-bits}
-use Rattle.facts.specs.Partial.{Partial, rest, above, empty, standingAt, partialAt}
+use Rattle.facts.specs.BitsLaws.{skip, first-even, first-odd, above-even, above-odd, cut-values, no-bits}
+use Rattle.facts.specs.Partial.{Partial, rest, above, empty, standingAt}
 use Rattle.estimate.specs.Number.{Number, exact, never, sum, lesser, WithinCap}
 use Rattle.estimate.specs.NumberLaws.{sum-zero, sum-comm, sum-assoc, sum-within, lesser-never, lesser-assoc}
 use Rattle.estimate.specs.Facts.{mostVariables}

@@ -10,12 +10,12 @@ use mathlib.Core.List.{List, [], _∷_}
 use lib.Dec.{ltb, eqb}
 use lib.ListN.{length, getD, set, length-set, List·getD-eq-default}
 use lib.Seq.{getD-set-same, getD-set-other}
-use borrow.Author.Tests.{lt-ltb, le-ltb, eq-eqb, eqb-true, eqb-false}
+use borrow.Author.Tests.{lt-ltb, le-ltb, eq-eqb, eqb-true}
 use Rattle.estimate.specs.declared.Est.{Est}
 use Rattle.estimate.specs.declared.Est.the-variants.{Never}
 use Rattle.estimate.specs.Number.{Number, never, number, lesser, same, rank, ranked}
 use Rattle.estimate.specs.NumberLaws.{lesser-never, ranked-min, same-refl, same-true}
-use Rattle.estimate.specs.Facts.{mostVariables, mostValues, mostFacts, factIndex, HasNumbers, startNumber}
+use Rattle.estimate.specs.Facts.{mostVariables, mostValues, mostFacts, factIndex, HasNumbers}
 use Rattle.estimate.specs.ListedLaws.{fact-variable}
 use Rattle.estimate.specs.Ranks.{rankNumber, Room, HasRanks, offeredTo, afterFact, Taken, FactTaken, RowTaken, RowsTaken, TakenOver}
 

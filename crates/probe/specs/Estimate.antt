@@ -11,7 +11,7 @@ use Rattle.estimate.specs.Number.{Number, exact}
 use Rattle.estimate.specs.Additive.{Achiever, WfAchiever, additive, estimateFile}
 use Rattle.estimate.specs.Facts.{mostFacts}
 use Rattle.estimate.specs.Ranks.{Roomy}
-use Rattle.probe.specs.Probe.{Step, Probe}
+use Rattle.probe.specs.Probe.{Step, Probe, WfProbe}
 use Rattle.probe.specs.ProbeFile.{readProbe}
 use Rattle.probe.specs.InPlace.{stepAt, Within}
 
@@ -44,6 +44,7 @@ pub record Ready (f sizes : List ℕ) (goal : ℕ) (offsets : List ℕ) : Type 0
 pub record InPlace (f : List ℕ) (variables : ℕ) (offsets : List ℕ) : Type 0 where
   pub probe : Probe
   pub reads : readProbe f ≡ accepted probe
+  pub wf : WfProbe probe
   pub fits : 1 + 2 * variables ≤ length f
   pub sizes : take variables (drop 1 f) ≡ probe .sizes
   pub goal : partialAt f (1 + 2 * variables) ≡ probe .goal

@@ -2,9 +2,9 @@
 use mathlib.Core.Path.{_≡_, sym, ap, ap₂, _∙_, subst, subst₂}
 use Prim.Native.Nat.{ℕ, _+_, _*_, _≤_, _<_}
 use native.Mathlib.Omega.{arith}
-use mathlib.Core.List.{List, [], _++_, append-nil}
-use lib.ListN.{length, getD, take, drop}
-use lib.Seq.{getD-take, length-take-le, take-length, drop-length}
+use mathlib.Core.List.{List, [], map}
+use lib.ListN.{length, getD, take, drop, length-map, List·getD-map}
+use lib.Seq.{ext-getD, getD-take, length-take-le}
 use borrow.Author.Tests.{le-leb, lt-leb}
 use Rattle.facts.specs.Read.{accepted, refused, _>>=_}
 use Rattle.facts.specs.ReadLaws.{made, not-made, value-of, next-of}
@@ -24,15 +24,19 @@ use Rattle.probe.specs.InPlace.{probeAt, stepAt, moveAt, Within, Marked,
 use Rattle.probe.specs.InPlaceLaws.{step-read}
 
 module _ (f : List ℕ) where
+  -- what has no variables and steps is refused
+  pub not-read : {n p : ℕ} → probeAt f ≡ refused n p → readProbe f ≡ refused n p
+  unfolding probeAt
+  not-read h = not-made (λ (p : Probe). (length (p .sizes), length (p .steps))) (readProbe f) h
+
   -- what is refused has no steps to be found
   pub located-none : {n p : ℕ} (offsets : List ℕ) → probeAt f ≡ refused n p → Located f offsets
-  unfolding probeAt
-  located-none offsets h = record { lies = λ p r k st a. absurd (let e = not-made (λ (p : Probe). (length (p .sizes), length (p .steps))) (readProbe f) h in let z : _≡_ {A = ℕ} 0 1 = cc in omega arith) }
+  located-none offsets h = record { lies = λ p r k st a. absurd (let e = not-read h in let z : _≡_ {A = ℕ} 0 1 = cc in omega arith) }
 
   -- the check alone
   pub check-refused : {n p : ℕ} → probeAt f ≡ refused n p → checkProbe f ≡ refused n p
-  unfolding probeAt checkProbe
-  check-refused h = rw (not-made (λ (p : Probe). (length (p .sizes), length (p .steps))) (readProbe f) h)
+  unfolding checkProbe
+  check-refused h = rw (not-read h)
 
   pub check-accepted : {n k : ℕ} → probeAt f ≡ accepted (n, k) → checkProbe f ≡ accepted tt
   unfolding probeAt checkProbe
@@ -128,6 +132,18 @@ module _ (f offsets : List ℕ) {p : Probe} (r : readProbe f ≡ accepted p) (lo
       let s = step-read f (p .sizes) (getD offsets k 0) (o .1) in
       (getD (p .steps) k none, a, s .same, s .fits)
 
+  -- the steps as they stand are those of the probe that was read
+  pub steps-in-place : count ≤ length offsets → map (stepAt f) (take count offsets) ≡ p .steps
+  steps-in-place few =
+      let none = stepAt f 0 in
+      let len : length (take count offsets) ≡ count = length-take-le count offsets few in
+      ext-getD none (map (stepAt f) (take count offsets)) (p .steps) (length-map (take count offsets) (stepAt f) ∙ len)
+      (λ k l.
+      let low : k < count = omega (arith, length-map (take count offsets) (stepAt f)) in
+      List·getD-map (stepAt f) (take count offsets) k 0
+      ∙ ap (stepAt f) (getD-take count offsets k 0 low)
+      ∙ step-read f (p .sizes) (getD offsets k 0) (loc .lies p r k (getD (p .steps) k none) (at-getD (p .steps) k none low) .1) .same)
+
   -- the state, the goal and the moves are those of the probe that was read
   pub run-in-place : (list init : List ℕ) (goal : ℕ) → count ≤ length offsets → init ≡ p .init → partialAt f goal ≡ p .goal
       → runFrom (length (take count offsets)) (moveAt f (take count offsets)) (partialAt f goal) 0 0 list init ≡ probeSum p list
@@ -144,8 +160,8 @@ module _ (f offsets : List ℕ) {p : Probe} (r : readProbe f ≡ accepted p) (lo
 -- ---- the run of a file
 
 pub run-refused : (f list : List ℕ) {n p : ℕ} → probeAt f ≡ refused n p → runProbe f list ≡ refused n p
-unfolding probeAt runProbe
-run-refused f list h = rw (not-made (λ (p : Probe). (length (p .sizes), length (p .steps))) (readProbe f) h)
+unfolding runProbe
+run-refused f list h = rw (not-read f h)
 
 module _ (f : List ℕ) {n k : ℕ} (h : probeAt f ≡ accepted (n, k)) where
   pub record Accepted : Type 0 where

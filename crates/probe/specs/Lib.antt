@@ -8,6 +8,7 @@ pub mod Estimate
 pub mod ProbeLaws
 pub mod InPlaceLaws
 pub mod IndexLaws
+pub mod EstimateLaws
 pub mod Examples
 pub mod EstimateExamples
 pub mod EstimateRounds

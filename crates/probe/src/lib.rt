@@ -72,7 +72,12 @@ pub fn estimate(file: &[u8], state: &[u8]) -> Estimated
     let mut offsets = [0; Probe::MAX_STEPS];
     match index::index(file, &mut offsets) {
         Indexed::Refused(why) => Estimated::Refused(why),
-        Indexed::Steps(variables, steps) => estimate_from(file, variables, &offsets[..steps], state),
+        Indexed::Steps(variables, steps) => estimate_from(
+            file,
+            variables,
+            &offsets[..steps],
+            state,
+        ),
     }
 }
 

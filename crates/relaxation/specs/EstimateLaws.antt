@@ -8,7 +8,7 @@ use Rattle.facts.specs.PartialLaws.{inside-at}
 use Rattle.estimate.specs.Number.{Number, sum}
 use Rattle.estimate.specs.Additive.{factNumber, sumFrom, offerOf}
 use Rattle.estimate.specs.AdditiveLaws.{additive-agrees}
-use Rattle.taskfile.specs.Task.{Action, Task, WfTask}
+use Rattle.taskfile.specs.Task.{Task, WfTask}
 use Rattle.relaxation.specs.LeastLaws.{map-agree}
 use Rattle.relaxation.specs.Estimate.{leastCost, actionAchiever, estimate}
 use Rattle.relaxation.specs.EstimatePass.{leastCostByPass, estimateByPass}

@@ -1,4 +1,6 @@
 // What programs write about answers, to standard output, a line each.
+use estimate::Est;
+use estimate::Estimated;
 use facts::Checked;
 use facts::Ran;
 use facts::Refusal;
@@ -18,6 +20,22 @@ pub fn ran(answer: Ran) {
     match answer {
         Ran::Sum(sum) => number(b"sum ", sum),
         Ran::Refused(why) => refusal(why),
+    }
+}
+
+// An estimate.
+pub fn estimated(answer: Estimated) {
+    match answer {
+        Estimated::Refused(why) => refusal(why),
+        Estimated::Number(e) => match e {
+            Est::Exact(n) => number(b"estimate ", n),
+            Est::Over => {
+                io::write_all(1, b"estimate over\n");
+            }
+            Est::Never => {
+                io::write_all(1, b"estimate never\n");
+            }
+        },
     }
 }
 

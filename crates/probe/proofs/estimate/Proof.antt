@@ -1,57 +1,40 @@
+-- `probe::estimate` meets its contract: the file is refused, or it is estimated in place. Assumes nothing.
+use Prim.Native.Nat.{_≤_}
+use mathlib.Core.Path.{_≡_, sym, ap, _∙_}
+use native.Mathlib.Omega.{arith}
+use lib.ListN.{length}
+use lib.Seq.{length-take-le}
+use denote.Ref.{now}
 use borrow.Author.Needs.{needs}
+use Rattle.facts.specs.Read.{accepted}
+use Rattle.facts.specs.BytesLaws.{bytes-each}
+use Rattle.probe.specs.Answers.{indexedAnswer}
+use Rattle.probe.specs.InPlace.{probeAt}
+use Rattle.probe.specs.IndexLaws.{starts}
+use Rattle.probe.specs.EstimateLaws.{estimate-not-read, in-place}
 use Rattle.probe.proofs.estimate.Statement.{statement}
 use Rattle.probe.proofs.estimate.Tie as tie
-use Rattle.probe.proofs.estimate.Reads as reads
-use Rattle.probe.proofs.estimate.Lts as lts
-use Rattle.probe.proofs.estimate_from.Reads as estimate-from-reads
-use Rattle.probe.proofs.index.index.Reads as index-reads
 
--- src/lib.rt:73:30
-slice-aggregate-index : tie.Need-slice-aggregate-index
-slice-aggregate-index c = search needs
+file-is : (c : tie.After-variables) → probeAt (now (c .before .before .before .before .before .before .before .args .file)) ≡ accepted (c .variables .given .0 .0, c .variables .given .0 .1 .0)
+file-is c = sym (c .before .before .before .index .ensures .0) ∙ ap indexedAnswer (c .variables .given .1)
 
--- src/lib.rt:73:11
-index-requires : tie.Need-index-requires
-index-requires c κs = search needs
-
--- src/lib.rt:74:26
-enum-known-why : tie.Need-enum-known-why
-enum-known-why c = search needs
-
--- src/lib.rt:75:24
-enum-known-variables : tie.Need-enum-known-variables
-enum-known-variables c = search needs
-
--- src/lib.rt:75:76
-array-share-prefix-offsets : tie.Need-array-share-prefix-offsets
-array-share-prefix-offsets c = ?
-
--- src/lib.rt:75:76
-slice-aggregate-estimate-from : tie.Need-slice-aggregate-estimate-from
-slice-aggregate-estimate-from c = ?
-
--- src/lib.rt:75:45
-estimate-from-requires : tie.Need-estimate-from-requires
-estimate-from-requires c κs = ?
-
--- src/lib.rt:69:1
-returns : tie.Need-returns
-returns c = ?
-
--- src/lib.rt:69:1
-returns-2 : tie.Need-returns-2
-returns-2 c = search needs
+few : (c : tie.After-variables) → c .variables .given .0 .1 .0 ≤ length (c .before .before .before .index .last .1 .0)
+few c = omega (arith, starts _ (file-is c) .steps, c .before .before .offsets2 .given)
 
 pub estimate-spec : {M : Type 1} → statement M
 estimate-spec =
     tie.close
     (tie.spec
-    slice-aggregate-index
-    index-requires
-    enum-known-why
-    enum-known-variables
-    array-share-prefix-offsets
-    slice-aggregate-estimate-from
-    estimate-from-requires
-    returns
-    returns-2)
+    (λ c. search needs)
+    (λ c κs. search needs)
+    (λ c. search needs)
+    (λ c. search needs)
+    (λ c. few (c .before))
+    (λ c. sym (length-take-le _ _ (few (c .before .before))))
+    (λ c κs.
+    let v = c .before .before in
+    let known = v .before .before .before .before .before .before in
+    let f = now (known .before .args .file) in
+    in-place f (bytes-each f (λ i. known .shared-slice-known .given i .fits)) (file-is v) (v .before .before .before .index .last .1 .0) (v .before .before .before .index .ensures .1) (few v))
+    (λ c. sym (estimate-not-read _ _ (sym (c .before .before .before .before .index .ensures .0) ∙ ap indexedAnswer (c .before .why .given .1))))
+    (λ c. c .estimate-from .ensures))

@@ -1,6 +1,5 @@
 -- `estimate::ranks::number_of` meets its contract: where there is no room for the fact, its number is never. Assumes nothing.
 use mathlib.Core.Path.{sym, _∙_}
-use native.Mathlib.Omega.{arith}
 use borrow.Author.Needs.{needs}
 use Rattle.estimate.specs.RanksLaws.{rank-at, rank-variable, rank-value, rank-cut}
 use Rattle.estimate.proofs.ranks.number_of.Statement.{statement}

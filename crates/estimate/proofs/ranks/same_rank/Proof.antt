@@ -1,5 +1,5 @@
 -- `estimate::ranks::same_rank` meets its contract: only the ranks from that of never on are of one number. Assumes nothing.
-use mathlib.Core.Path.{refl, sym, ap, ap₂, _∙_}
+use mathlib.Core.Path.{sym, ap, ap₂, _∙_}
 use Prim.Native.Nat.{ℕ}
 use native.Mathlib.Omega.{arith}
 use Rattle.estimate.specs.Number.{same, ranked}

@@ -1,5 +1,5 @@
 -- `estimate::ranks::start_ranks` meets its contract: the ranks up to the next are those of the array's numbers. Assumes nothing.
-use mathlib.Core.Path.{_≡_, refl, ap, _∙_}
+use mathlib.Core.Path.{_≡_, refl}
 use Prim.Native.Nat.{_-_, _≤_}
 use native.Mathlib.Omega.{arith}
 use lib.ListN.{length, length-set}

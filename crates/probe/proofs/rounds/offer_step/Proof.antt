@@ -1,65 +1,36 @@
+-- `probe::rounds::offer_step` meets its contract: precondition, effect and cost follow one another. Assumes nothing.
+use mathlib.Core.Path.{ap, ap₂, _∙_}
+use denote.Ref.{now}
 use borrow.Author.Needs.{needs}
+use Rattle.facts.specs.InPlaceLaws.{past-is}
+use Rattle.estimate.specs.Number.{exact, sum}
+use Rattle.estimate.specs.Ranks.{rankNumber}
+use Rattle.probe.specs.EstimateLaws.{step-offered}
 use Rattle.probe.proofs.rounds.offer_step.Statement.{statement}
 use Rattle.probe.proofs.rounds.offer_step.Tie as tie
-use Rattle.probe.proofs.rounds.offer_step.Reads as reads
-use Rattle.probe.proofs.rounds.offer_step.Lts as lts
-use Rattle.estimate.proofs.offers.lower_at.Reads as lower-at-reads
-use Rattle.estimate.proofs.offers.sum_at.Reads as sum-at-reads
-use Rattle.estimate.proofs.sum.Reads as sum-reads
-use Rattle.facts.proofs.number.word_at.Reads as word-at-reads
-use Rattle.facts.proofs.partial.length_at.Reads as length-at-reads
 
--- src/rounds.rt:49:23
-length-at-requires : tie.Need-length-at-requires
-length-at-requires c κs = search needs
-
--- src/rounds.rt:49:18
-add-effect : tie.Need-add-effect
-add-effect c = search needs
-
--- src/rounds.rt:50:25
-length-at-requires-2 : tie.Need-length-at-requires-2
-length-at-requires-2 c κs = search needs
-
--- src/rounds.rt:50:16
-add-cost : tie.Need-add-cost
-add-cost c = search needs
-
--- src/rounds.rt:51:9
-sum-at-requires : tie.Need-sum-at-requires
-sum-at-requires c κs = search needs
-
--- src/rounds.rt:52:49
-word-at-requires : tie.Need-word-at-requires
-word-at-requires c κs = search needs
-
--- src/rounds.rt:52:9
-sum-requires : tie.Need-sum-requires
-sum-requires c κs = search needs
-
--- src/rounds.rt:53:5
-lower-at-requires : tie.Need-lower-at-requires
-lower-at-requires c κs = search needs
-
--- src/rounds.rt:45:1
-same-length : tie.Need-same-length
-same-length c = search needs
-
--- src/rounds.rt:45:1
 returns : tie.Need-returns
-returns c = ?
+returns c =
+    let call = c .before .before in
+    let total = call .before .before in
+    let known = total .before .before in
+    let effect = known .before .before in
+    let a = effect .before .before .before .before .args in
+    step-offered (now (a .file)) (a .at) (a .n) (rankNumber (now (a .old))) (rankNumber (now (a .new)))
+    (past-is (now (a .file)) (a .at) (effect .length-at .ensures .0)) (past-is (now (a .file)) _ (known .before .length-at2 .ensures .0))
+    (total .sum .ensures ∙ ap₂ sum (known .sum-at .ensures) (ap exact (total .before .word-at .ensures .0))) (call .lower-at .ensures)
 
 pub offer-step-spec : {M : Type 1} → statement M
 offer-step-spec =
     tie.close
     (tie.spec
-    length-at-requires
-    add-effect
-    length-at-requires-2
-    add-cost
-    sum-at-requires
-    word-at-requires
-    sum-requires
-    lower-at-requires
-    same-length
+    (λ c κs. search needs)
+    (λ c. search needs)
+    (λ c κs. search needs)
+    (λ c. search needs)
+    (λ c κs. search needs)
+    (λ c κs. search needs)
+    (λ c κs. search needs)
+    (λ c κs. search needs)
+    (λ c. search needs)
     returns)

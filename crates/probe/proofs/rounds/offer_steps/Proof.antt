@@ -1,50 +1,39 @@
+-- `probe::rounds::offer_steps` meets its contract: the offers of the steps that are left make the whole. Assumes nothing.
+use mathlib.Core.Path.{_≡_, refl, _∙_}
+use Prim.Native.Nat.{_-_, _≤_}
+use native.Mathlib.Omega.{arith}
+use mathlib.Core.List.{map}
+use lib.ListN.{length}
+use denote.Ref.{now}
+use borrow.Author.Needs.{needs}
+use Rattle.estimate.specs.Additive.{offersBy}
+use Rattle.estimate.specs.Ranks.{rankNumber, afterOffers}
+use Rattle.estimate.specs.OfferLaws.{heard-none}
+use Rattle.probe.specs.Estimate.{achieverAt}
+use Rattle.probe.specs.EstimateLaws.{HeardFrom, steps-more, steps-all}
 use Rattle.probe.proofs.rounds.offer_steps.Statement.{statement}
 use Rattle.probe.proofs.rounds.offer_steps.Tie as tie
-use Rattle.probe.proofs.rounds.offer_steps.Reads as reads
-use Rattle.probe.proofs.rounds.offer_steps.Lts as lts
-use Rattle.probe.proofs.rounds.offer_step.Reads as offer-step-reads
 
 abbrev Inv-loop : tie.InvT-loop
-Inv-loop file offsets n old new₀ k₀ k-end new k = ?
+Inv-loop file offsets n old new₀ k₀ end new k =
+    (k ≤ length offsets) × (length new ≡ length new₀) × HeardFrom file offsets n (rankNumber old) k (afterOffers (offersBy n (rankNumber old) (map (achieverAt file) offsets)) (rankNumber new₀)) new
 
 abbrev μ-loop : tie.MeasureT-loop
-μ-loop file offsets n old new₀ k₀ k-end new k = ?
+μ-loop file offsets n old new₀ k₀ end new k = length offsets - k
 
--- src/rounds.rt:39:5
-loop-holds : tie.Need-loop-holds Inv-loop μ-loop
-loop-holds c = ?
-
--- src/rounds.rt:40:26
-mul-offer-step : tie.Need-mul-offer-step Inv-loop μ-loop
-mul-offer-step c = ?
-
--- src/rounds.rt:40:26
-shared-slice-read-offer-step : tie.Need-shared-slice-read-offer-step Inv-loop μ-loop
-shared-slice-read-offer-step c = ?
-
--- src/rounds.rt:40:9
-offer-step-requires : tie.Need-offer-step-requires Inv-loop μ-loop
-offer-step-requires c κs = ?
-
--- src/rounds.rt:39:9
-add-k : tie.Need-add-k Inv-loop μ-loop
-add-k c = ?
-
--- src/rounds.rt:39:5
-loop-less : tie.Need-loop-less Inv-loop μ-loop
-loop-less c = ?
-
--- src/rounds.rt:39:5
 loop-again : tie.Need-loop-again Inv-loop μ-loop
-loop-again c = ?
+loop-again c =
+    let call = c .before .before in
+    let l = call .before .before .before .before .loop in
+    let a = call .before .before .before .before .before .before .before .before .before .args in
+    let same = c .before .new .given in
+    (omega arith, same ∙ l .inv .1, steps-more (now (a .file)) (now (a .offsets)) (a .n) (rankNumber (now (a .old))) (l .k) _ (l .inv .2) (omega arith) same (call .offer-step .ensures))
 
--- src/rounds.rt:35:1
-same-length : tie.Need-same-length Inv-loop μ-loop
-same-length c = ?
-
--- src/rounds.rt:35:1
 returns : tie.Need-returns Inv-loop μ-loop
-returns c = ?
+returns c =
+    let l = c .before .loop in
+    let a = c .before .before .before .before .before .before .args in
+    steps-all (now (a .file)) (now (a .offsets)) (a .n) (rankNumber (now (a .old))) (l .k) _ (l .inv .2) (omega arith)
 
 pub offer-steps-spec : {M : Type 1} → statement M
 offer-steps-spec =
@@ -52,12 +41,12 @@ offer-steps-spec =
     (tie.spec
     Inv-loop
     μ-loop
-    loop-holds
-    mul-offer-step
-    shared-slice-read-offer-step
-    offer-step-requires
-    add-k
-    loop-less
+    (λ c. (omega arith, refl, heard-none _ _))
+    (λ c. search needs)
+    (λ c. omega arith)
+    (λ c κs. c .before .before .before .before .before .before .before .before .pre (c .before .before .before .loop .k) (omega arith))
+    (λ c. omega arith)
+    (λ c. omega arith)
     loop-again
-    same-length
+    (λ c. c .before .loop .inv .1)
     returns)

@@ -1,73 +1,57 @@
+-- `probe::rounds::settle` meets its contract: rounds have led to the old numbers, and each that changes one lowers the sum of all ranks.
+-- Assumes nothing.
+use mathlib.Core.Path.{_≡_, _∙_}
+use mathlib.Core.List.{map}
+use lib.ListN.{length}
+use borrow.Author.Needs.{needs}
+use Rattle.facts.specs.Lists.{total}
+use Rattle.estimate.specs.Number.{rank}
+use Rattle.estimate.specs.Facts.{mostFacts}
+use Rattle.estimate.specs.Ranks.{rankList}
+use Rattle.estimate.specs.LoopLaws.{roomy-same, Between, between-start, between-on, between-falls, between-end}
+use Rattle.probe.specs.Estimate.{achieverAt}
 use Rattle.probe.proofs.rounds.settle.Statement.{statement}
 use Rattle.probe.proofs.rounds.settle.Tie as tie
-use Rattle.probe.proofs.rounds.settle.Reads as reads
-use Rattle.probe.proofs.rounds.settle.Lts as lts
-use Rattle.estimate.proofs.offers.sum_at.Reads as sum-at-reads
-use Rattle.estimate.proofs.ranks.start_ranks.Reads as start-ranks-reads
-use Rattle.estimate.proofs.ranks.take_over.Reads as take-over-reads
-use Rattle.probe.proofs.rounds.offer_steps.Reads as offer-steps-reads
 
 abbrev Inv-loop : tie.InvT-loop
-Inv-loop file sizes goal offsets state old₀ new₀ old new = ?
+Inv-loop file sizes goal offsets state old₀ new₀ old new = (length old ≡ mostFacts) × (length new ≡ mostFacts) × Between sizes (map (achieverAt file) offsets) state old new
 
 abbrev μ-loop : tie.MeasureT-loop
-μ-loop file sizes goal offsets state old₀ new₀ old new = ?
+μ-loop file sizes goal offsets state old₀ new₀ old new = total rank (rankList sizes old)
 
--- src/rounds.rt:23:41
-slice-aggregate-start-ranks : tie.Need-slice-aggregate-start-ranks Inv-loop μ-loop
-slice-aggregate-start-ranks c = ?
-
--- src/rounds.rt:23:5
-start-ranks-requires : tie.Need-start-ranks-requires Inv-loop μ-loop
-start-ranks-requires c κs = ?
-
--- src/rounds.rt:25:5
 loop-holds : tie.Need-loop-holds Inv-loop μ-loop
-loop-holds c = ?
+loop-holds c =
+    let ready = c .before .before .before .before .before .before .before .pre in
+    (c .old2 .given, c .old2 .given, between-start (roomy-same (ready .room) (c .old2 .given)) (c .before .start-ranks .ensures))
 
--- src/rounds.rt:26:49
-slice-aggregate-offer-steps : tie.Need-slice-aggregate-offer-steps Inv-loop μ-loop
-slice-aggregate-offer-steps c = ?
-
--- src/rounds.rt:26:55
-slice-aggregate-offer-steps-2 : tie.Need-slice-aggregate-offer-steps-2 Inv-loop μ-loop
-slice-aggregate-offer-steps-2 c = ?
-
--- src/rounds.rt:26:9
-offer-steps-requires : tie.Need-offer-steps-requires Inv-loop μ-loop
-offer-steps-requires c κs = ?
-
--- src/rounds.rt:27:46
-slice-aggregate-take-over : tie.Need-slice-aggregate-take-over Inv-loop μ-loop
-slice-aggregate-take-over c = ?
-
--- src/rounds.rt:27:52
-slice-aggregate-take-over-2 : tie.Need-slice-aggregate-take-over-2 Inv-loop μ-loop
-slice-aggregate-take-over-2 c = ?
-
--- src/rounds.rt:27:12
-take-over-requires : tie.Need-take-over-requires Inv-loop μ-loop
-take-over-requires c κs = ?
-
--- src/rounds.rt:25:5
 loop-less : tie.Need-loop-less Inv-loop μ-loop
-loop-less c = ?
+loop-less c =
+    let over = c .before .before in
+    let offers = over .before .before .before .before in
+    let l = offers .before .before .before .loop in
+    let ready = offers .before .before .before .before .before .before .before .before .before .before .before .pre in
+    between-falls (l .inv .2) (ready .steps) (roomy-same (ready .room) (over .before .before .before .new2 .given)) (offers .offer-steps .ensures)
+    (roomy-same (ready .room) (l .inv .0)) (over .take-over .ensures) (c .if1 .taken)
 
--- src/rounds.rt:25:5
 loop-again : tie.Need-loop-again Inv-loop μ-loop
-loop-again c = ?
+loop-again c =
+    let over = c .before .before in
+    let offers = over .before .before .before .before in
+    let l = offers .before .before .before .loop in
+    let ready = offers .before .before .before .before .before .before .before .before .before .before .before .pre in
+    let same = over .before .before .before .new2 .given in
+    (c .before .old5 .given, same, between-on (l .inv .2) (ready .steps) (roomy-same (ready .room) same) (offers .offer-steps .ensures) (roomy-same (ready .room) (l .inv .0)) (over .take-over .ensures))
 
--- src/rounds.rt:30:66
-slice-aggregate-sum-at : tie.Need-slice-aggregate-sum-at Inv-loop μ-loop
-slice-aggregate-sum-at c = ?
-
--- src/rounds.rt:30:9
-sum-at-requires : tie.Need-sum-at-requires Inv-loop μ-loop
-sum-at-requires c κs = ?
-
--- src/rounds.rt:30:9
 returns : tie.Need-returns Inv-loop μ-loop
-returns c = ?
+returns c =
+    let told = c .before .before in
+    let over = told .before .before in
+    let offers = over .before .before .before .before in
+    let l = offers .before .before .before .loop in
+    let ready = offers .before .before .before .before .before .before .before .before .before .before .before .pre in
+    c .sum-at .ensures
+    ∙ between-end (l .inv .2) (ready .steps) (roomy-same (ready .room) (over .before .before .before .new2 .given)) (offers .offer-steps .ensures)
+    (roomy-same (ready .room) (l .inv .0)) (over .take-over .ensures) (ready .goal-is) (told .if1 .left)
 
 pub settle-spec : {M : Type 1} → statement M
 settle-spec =
@@ -75,17 +59,17 @@ settle-spec =
     (tie.spec
     Inv-loop
     μ-loop
-    slice-aggregate-start-ranks
-    start-ranks-requires
+    (λ c. search needs)
+    (λ c κs. search needs)
     loop-holds
-    slice-aggregate-offer-steps
-    slice-aggregate-offer-steps-2
-    offer-steps-requires
-    slice-aggregate-take-over
-    slice-aggregate-take-over-2
-    take-over-requires
+    (λ c. search needs)
+    (λ c. search needs)
+    (λ c κs. c .before .before .before .before .before .before .before .before .before .before .pre .within)
+    (λ c. search needs)
+    (λ c. search needs)
+    (λ c κs. search needs)
     loop-less
     loop-again
-    slice-aggregate-sum-at
-    sum-at-requires
+    (λ c. search needs)
+    (λ c κs. search needs)
     returns)
