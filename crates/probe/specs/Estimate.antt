@@ -8,9 +8,9 @@ use Rattle.facts.specs.Lists.{All}
 use Rattle.facts.specs.Partial.{partialAt}
 use Rattle.facts.specs.WellFormed.{WfPartial}
 use Rattle.estimate.specs.Number.{Number, exact}
-use Rattle.estimate.specs.Additive.{Achiever, WfAchiever, additive, estimateFile}
+use Rattle.estimate.specs.Additive.{Achiever, offerOf, WfAchiever, additive, estimateFile}
 use Rattle.estimate.specs.Facts.{mostFacts}
-use Rattle.estimate.specs.Ranks.{Roomy}
+use Rattle.estimate.specs.Ranks.{Roomy, afterOffer}
 use Rattle.probe.specs.Probe.{Step, Probe, WfProbe}
 use Rattle.probe.specs.ProbeFile.{readProbe}
 use Rattle.probe.specs.InPlace.{stepAt, Within}
@@ -32,6 +32,10 @@ estimateProbe f s = estimateFile (λ p. p .sizes) probeEstimate (readProbe f) s
 -- the step at an offset, for the heuristic
 abbrev pub achieverAt : List ℕ → ℕ → Achiever
 achieverAt f at = stepAchiever (stepAt f at)
+
+-- the numbers after its offer by the old numbers, for n variables
+unfoldable pub afterStep : List ℕ → ℕ → ℕ → (ℕ → ℕ → Number) → (ℕ → ℕ → Number) → ℕ → ℕ → Number
+afterStep f at n old of = afterOffer (offerOf n old (achieverAt f at)) of
 
 -- domain sizes, goal and steps as they stand in a file, well-formed, so that rounds end on their estimate
 pub record Ready (f sizes : List ℕ) (goal : ℕ) (offsets : List ℕ) : Type 0 where

@@ -26,15 +26,15 @@ use Rattle.probe.specs.ProbeFile.{readProbe}
 use Rattle.probe.specs.ProbeLaws.{probe-lines, probe-wf}
 use Rattle.probe.specs.InPlace.{probeAt, stepAt, Within, Located}
 use Rattle.probe.specs.IndexLaws.{not-read, steps-in-place, accepted-probe, starts, run-within}
-use Rattle.probe.specs.Estimate.{stepAchiever, probeEstimate, estimateProbe, achieverAt, Ready, InPlace}
+use Rattle.probe.specs.Estimate.{stepAchiever, probeEstimate, estimateProbe, achieverAt, afterStep, Ready, InPlace}
 
 -- ---- the offers of steps
 
 -- the offer of the step at an offset, from its parts
 pub step-offered : (f : List ℕ) (at n : ℕ) (old of : ℕ → ℕ → Number) {effect place : ℕ} {offer : Number} {ranks : List ℕ} → effect ≡ pastPartial f at → place ≡ pastPartial f effect
     → offer ≡ sum (sumFrom old 0 n (partialAt f at)) (exact (wordAt f place)) → HasRanks ranks (afterOffer (record { effect = partialAt f effect; number = offer }) of)
-    → HasRanks ranks (afterOffer (offerOf n old (achieverAt f at)) of)
-unfolding stepAt
+    → HasRanks ranks (afterStep f at n old of)
+unfolding stepAt afterStep
 step-offered f at n old of {effect} {place} e q o h =
     let z : place ≡ pastPartial f (pastPartial f at) = q ∙ ap (pastPartial f) e in
     offer-same of (ap (partialAt f) (sym e)) (sym (o ∙ ap (λ (w : ℕ). sum (sumFrom old 0 n (partialAt f at)) (exact (wordAt f w))) z)) h
@@ -46,7 +46,8 @@ module _ (f offsets : List ℕ) (n : ℕ) (old : ℕ → ℕ → Number) where
 
   -- one step more
   pub steps-more : (k : ℕ) (whole : ℕ → ℕ → Number) {ranks next : List ℕ} → HeardFrom k whole ranks → k < length offsets → length next ≡ length ranks
-      → HasRanks next (afterOffer (offerOf n old (achieverAt f (getD offsets k 0))) (rankNumber ranks)) → HeardFrom (k + 1) whole next
+      → HasRanks next (afterStep f (getD offsets k 0) n old (rankNumber ranks)) → HeardFrom (k + 1) whole next
+  unfolding afterStep
   steps-more k whole {ranks} g l same h =
       let split : drop k offsets ≡ getD offsets k 0 ∷ drop (k + 1) offsets = drop-cons offsets k 0 l ∙ ap (λ (j : ℕ). getD offsets k 0 ∷ drop j offsets) (sym (add-one k)) in
       heard-more (subst (λ (ats : List ℕ). Heard (offersBy n old (map (achieverAt f) ats)) whole ranks) split g) same h

@@ -6,10 +6,10 @@ ghost use mathlib.Core.List.{map};
 ghost use lib.ListN.{length};
 ghost use Rattle.facts.specs.Partial.{partialAt};
 ghost use Rattle.estimate.specs.Number.{number};
-ghost use Rattle.estimate.specs.Additive.{offerOf, offersBy, additive};
-ghost use Rattle.estimate.specs.Ranks.{rankNumber, HasRanks, afterOffer, afterOffers};
+ghost use Rattle.estimate.specs.Additive.{offersBy, additive};
+ghost use Rattle.estimate.specs.Ranks.{rankNumber, HasRanks, afterOffers};
 ghost use Rattle.probe.specs.InPlace.{Within};
-ghost use Rattle.probe.specs.Estimate.{achieverAt, Ready};
+ghost use Rattle.probe.specs.Estimate.{achieverAt, afterStep, Ready};
 
 // Rounds from a state until one changes nothing, and then the goal facts' sum: `offsets` has the offset of each step, and the goal starts at `goal`.
 pub fn settle(file: &[u8], sizes: &[u8], goal: usize, offsets: &[usize], state: &[u8]) -> Est
@@ -41,11 +41,11 @@ fn offer_steps(file: &[u8], offsets: &[usize], n: usize, old: &[u64], new: &mut 
 // The same for the step at an offset.
 fn offer_step(file: &[u8], at: usize, n: usize, old: &[u64], new: &mut [u64])
     requires { ⌜ at ≤ length (now file) ⌝ }
-    ensures { λ r. ⌜ HasRanks (now (new .exit)) (afterOffer (offerOf n (rankNumber (now (old .entry))) (achieverAt (now (file .entry)) at)) (rankNumber (now (new .entry)))) ⌝ }
+    ensures { λ r. ⌜ HasRanks (now (new .exit)) (afterStep (now (file .entry)) at n (rankNumber (now (old .entry))) (rankNumber (now (new .entry)))) ⌝ }
 {
+    let known = estimate::offers::sum_at(file, at, n, old);
     let effect = at + facts::partial::length_at(file, at);
     let cost = effect + facts::partial::length_at(file, effect);
-    let known = estimate::offers::sum_at(file, at, n, old);
     let offer = estimate::sum(known, Est::Exact(facts::number::word_at(file, cost)));
     estimate::offers::lower_at(file, effect, offer, new);
 }
