@@ -13,7 +13,6 @@ use Rattle.facts.specs.Partial.{Partial, above}
 use Rattle.estimate.specs.Number.{Number, exact, over, never, largest, capped, sum, lesser, AtMost, same}
 use Rattle.estimate.specs.NumberLaws.{sum-comm, lesser-comm, at-most-refl, at-most-trans, sum-monotone, lesser-monotone, same-refl, same-true}
 use Rattle.estimate.specs.Additive.{has, withNumber, sumFrom, offeredBy, offered, Achiever, offerOf, offersBy}
-use Rattle.estimate.specs.AdditiveLaws.{afterOffers}
 
 -- ---- the order
 
@@ -153,5 +152,5 @@ module _ {new old : ℕ → ℕ → Number} (lower : (v d : ℕ) → AtMost (new
 
   -- the number of a fact after the offers of all achievers
   pub falls-after : (n : ℕ) (achievers : List Achiever) → All (λ a. Supported (a .cost)) achievers → (v d : ℕ)
-      → Falls new old (afterOffers new (offersBy n new achievers) v d) (afterOffers old (offersBy n old achievers) v d)
+      → Falls new old (lesser (new v d) (offered (offersBy n new achievers) v d)) (lesser (old v d) (offered (offersBy n old achievers) v d))
   falls-after n achievers h v d = falls-lesser (falls-number v d) (falls-offered n achievers h v d)

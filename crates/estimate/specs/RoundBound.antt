@@ -13,9 +13,9 @@ use Rattle.estimate.specs.Number.{Number, exact, never, lesser, AtMost, 
 use Rattle.estimate.specs.NumberLaws.{at-most-refl, at-most-trans, at-most-antisym, lesser-zero, lesser-at-most, same-refl, same-true}
 use Rattle.estimate.specs.Rounds.{settle}
 use Rattle.estimate.specs.RoundsLaws.{by-change}
-use Rattle.estimate.specs.Additive.{factCount, factNumber, Achiever, offersBy, additiveRound, startNumbers, lastNumbers}
+use Rattle.estimate.specs.Additive.{factCount, factNumber, Achiever, offered, offersBy, additiveRound, startNumbers, lastNumbers}
 use Rattle.estimate.specs.ListedLaws.{factPlace, fact-placed, fact-none, facts-same}
-use Rattle.estimate.specs.AdditiveLaws.{afterOffers, round-at, additive-lowering, Settling, settling-start, settling-on, settling-end}
+use Rattle.estimate.specs.AdditiveLaws.{round-at, additive-lowering, Settling, settling-start, settling-on, settling-end}
 use Rattle.estimate.specs.FallLaws.{by-same, Cause, Falls, falls-cause, Supported, falls-after}
 
 -- ---- the statement
@@ -136,7 +136,7 @@ module _ (sizes : List ℕ) (achievers : List Achiever) (s : List ℕ) (supporte
   change-cause : (k v d : ℕ) → number (suc (suc k)) v d ≢ number (suc k) v d → Cause (number (suc k)) (number k) (number (suc (suc k)) v d)
   change-cause k v d differ =
       let fact = changed-fact (suc k) v d differ in
-      let at : (j : ℕ) → number (suc j) v d ≡ afterOffers (number j) (offersBy (length sizes) (number j) achievers) v d
+      let at : (j : ℕ) → number (suc j) v d ≡ lesser (number j v d) (offered (offersBy (length sizes) (number j) achievers) v d)
       = λ j. round-at sizes achievers (after j) (settling j .count) v d fact in
       falls-cause (subst₂ (Falls (number (suc k)) (number k)) (sym (at (suc k))) (sym (at k)) (falls-after (number-falls k) (length sizes) achievers supported v d)) differ
 
