@@ -15,7 +15,7 @@ use Rattle.taskfile.specs.WalkLaws.{walk-at, walk-past, level-node, level-termi
 use Rattle.relaxation.specs.Least.{leastOf, states, leastOver, valuesSum, MinPlus}
 use Rattle.relaxation.specs.LeastLaws.{map-agree, states-some, least-sum, over-next}
 use Rattle.relaxation.specs.Pass.{edgeFor, Pass, leastFrom}
-use Rattle.relaxation.specs.PassLaws.{pass-node, pass-terminal}
+use Rattle.relaxation.specs.PassLaws.{edge-inside, pass-node, pass-terminal}
 
 -- the pass that adds to each edge's weight the number of its value
 abbrev pub weighed : {C : Type 0} → (C → C → C) → (C → C → C) → (ℕ → C) → C → (ℕ → ℕ → C) → (ℕ → List ℕ) → Pass C
@@ -68,10 +68,8 @@ module _ {C : Type 0} {sum lesser : C → C → C} {of : ℕ → C} (algebra : M
     edgeCost v nd d = sum (of (edgeFor nd d .weight)) (sum (number v d) (from (edgeFor nd d .target)))
 
     -- a node has an edge for each of its values
-    pub edge-wf : {j : ℕ} {nd : Node} {k d : ℕ} → At (x .nodes) j nd → At (values (nd .var)) k d → WfEdge sizes (x .nodes) (suc j) (nd .var) (edgeFor nd d)
-    edge-wf {nd = nd} {d = d} h a =
-        let w = wf .nodes h in
-        w .edges (at-getD (nd .edges) d (record { target = 0; weight = 0 }) (omega (arith, w .edge-count, all-at (λ d. d < getD sizes (nd .var) 0) (usable .inside h) a)))
+    edge-wf : {j : ℕ} {nd : Node} {k d : ℕ} → At (x .nodes) j nd → At (values (nd .var)) k d → WfEdge sizes (x .nodes) (suc j) (nd .var) (edgeFor nd d)
+    edge-wf {nd = nd} h a = edge-inside wf h (all-at (λ d. d < getD sizes (nd .var) 0) (usable .inside h) a)
 
     -- at a node
     from-node : {j : ℕ} {nd : Node} → At (x .nodes) j nd → from (suc j) ≡ least (map (edgeCost (nd .var) nd) (values (nd .var)))

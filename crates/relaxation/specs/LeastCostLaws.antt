@@ -21,7 +21,7 @@ use Rattle.relaxation.specs.EstimatePass.{numberPass, leastCostByPass}
 
 -- ---- the numbers of the estimate as a min-plus algebra
 
-numbers : MinPlus sum lesser capped
+pub numbers : MinPlus sum lesser capped
 numbers = record { sum-comm = sum-comm; sum-assoc = sum-assoc; lesser-assoc = lesser-assoc; sum-lesser = sum-lesser; of-sum = sum-capped }
 
 -- nothing is less than 0
@@ -31,7 +31,7 @@ least-zero f {values = d ∷ c ∷ values} here e = ap (λ a. lesser a (leastOf 
 least-zero f {values = d ∷ c ∷ values} (there a) e = ap (lesser (f d)) (least-zero f a e) ∙ lesser-comm (f d) (exact 0) ∙ lesser-zero (f d)
 
 -- all values of a variable are below their count
-upFrom-below : (k n most : ℕ) → most ≡ k + n → All (λ d. d < most) (upFrom k n)
+pub upFrom-below : (k n most : ℕ) → most ≡ k + n → All (λ d. d < most) (upFrom k n)
 upFrom-below k zero most e = tt
 upFrom-below k (suc n) most e = (omega arith, upFrom-below (suc k) n most (omega arith))
 
@@ -124,4 +124,4 @@ module _ {sizes : List ℕ} {x : Action} (wf : WfAction sizes x) (of : ℕ → �
       least-by-pass numbers never added values wf usable (choices-from 0 sizes (omega arith) (λ k q l e. let z : k ≡ q = omega arith in ap (λ (n : ℕ). getD sizes n 0) z))
       ∙ ap (sum (capped (x .incoming)))
       (pass-agrees (weighed sum lesser capped never added values) (numberPass sizes of .across) (x .nodes)
-      (λ j nd a. ap {B = ℕ → ℕ → Number → Number} (λ (number : ℕ → Number) (d w : ℕ) (later : Number). sum (capped w) (sum (number d) later)) (number-tested (x .nodes) (nd .var) of (tests-node a))) 1)
+      (λ j nd a k d b. ap {B = ℕ → Number → Number} (λ (number : ℕ → Number) (w : ℕ) (later : Number). sum (capped w) (sum (number d) later)) (number-tested (x .nodes) (nd .var) of (tests-node a))) 1)

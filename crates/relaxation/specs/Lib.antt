@@ -6,14 +6,17 @@ pub mod RelaxedPass
 pub mod RelaxedInPlace
 pub mod Estimate
 pub mod EstimatePass
+pub mod EstimateInPlace
 -- The document's cases, computed.
 pub mod Examples
 -- Laws.
 pub mod LeastLaws
 pub mod PassLaws
+pub mod PassInPlaceLaws
 pub mod LeastByPass
 pub mod RelaxedLaws
 pub mod RelaxedInPlaceLaws
 pub mod LeastCostLaws
+pub mod EstimateInPlaceLaws
 pub mod EstimateLaws
 pub mod EstimateRounds

@@ -6,10 +6,25 @@ use native.Mathlib.Omega.{arith}
 use mathlib.Core.List.{List, [], _∷_, map}
 use lib.ListN.{length, getD, set}
 use lib.Seq.{getD-set-same, getD-set-other}
-use Rattle.facts.specs.Lists.{At, here, there}
-use Rattle.taskfile.specs.Task.{Node}
+use Rattle.facts.specs.Lists.{All, At, here, there}
+use Rattle.facts.specs.ListLaws.{at-getD, all-at}
+use Rattle.taskfile.specs.Task.{Node, Action, WfEdge, WfAction}
 use Rattle.relaxation.specs.LeastLaws.{map-agree}
 use Rattle.relaxation.specs.Pass.{edgeFor, Pass, byEdge, leastAt, leastFroms, leastFrom, Filled}
+
+-- ---- edges
+
+-- the element at an index, by its number
+pub at-value : {A : Type 0} (none : A) {xs : List A} {k q : ℕ} {y : A} → At xs k y → q ≡ k → y ≡ getD xs q none
+at-value none {q = zero} here e = refl
+at-value none {q = suc q} here e = absurd (omega arith)
+at-value none {q = zero} (there a) e = absurd (omega arith)
+at-value none {q = suc q} (there a) e = at-value none a (omega arith)
+
+-- a node has an edge for each value of its variable
+pub edge-inside : {sizes : List ℕ} {x : Action} {j d : ℕ} {nd : Node} → WfAction sizes x → At (x .nodes) j nd → d < getD sizes (nd .var) 0
+    → WfEdge sizes (x .nodes) (suc j) (nd .var) (edgeFor nd d)
+edge-inside {d = d} {nd = nd} wf h l = let w = wf .nodes h in w .edges (at-getD (nd .edges) d (record { target = 0; weight = 0 }) (omega (arith, w .edge-count)))
 
 -- ---- the ways of a pass
 
@@ -21,6 +36,11 @@ module _ {C : Type 0} (p : Pass C) where
   -- the edges of a node that lead above number q
   abbrev pub Above : ℕ → Node → Type 0
   Above q nd = (k d : ℕ) → At (p .values (nd .var)) k d → q < edgeFor nd d .target
+
+  -- those for values of its variable do
+  pub edges-above : {sizes : List ℕ} {x : Action} {j : ℕ} {nd : Node} → WfAction sizes x → At (x .nodes) j nd → All (λ d. d < getD sizes (nd .var) 0) (p .values (nd .var))
+      → Above (suc j) nd
+  edges-above {sizes = sizes} {nd = nd} wf h inside k d a = edge-inside wf h (all-at (λ d. d < getD sizes (nd .var) 0) inside a) .above
 
   -- a target above number i is one place further in the list that has node i too
   least-further : (i : ℕ) (y : Node) (nodes : List Node) (nd : Node) → Above i nd
@@ -90,17 +110,19 @@ module _ {C : Type 0} (p : Pass C) (across : ℕ → ℕ → ℕ → C → C) wh
   abbrev changed : Pass C
   changed = record { values = p .values; across = across; least = p .least; terminal = p .terminal }
 
-  -- the edges add the same for each variable that is tested
-  abbrev Agree : List Node → Type 0
-  Agree nodes = (j : ℕ) (nd : Node) → At nodes j nd → p .across (nd .var) ≡ across (nd .var)
+  -- the edges add the same for each value of each variable that is tested
+  abbrev pub Agree : List Node → Type 0
+  Agree nodes = (j : ℕ) (nd : Node) → At nodes j nd → (k d : ℕ) → At (p .values (nd .var)) k d → p .across (nd .var) d ≡ across (nd .var) d
 
   -- both find the same from each node on
   froms-agree : (i : ℕ) (nodes : List Node) → Agree nodes → leastFroms p i nodes ≡ leastFroms changed i nodes
   froms-agree i [] h = refl
   froms-agree i (nd ∷ nodes) h =
-      ap₂ (λ (edge : ℕ → ℕ → C → C) (later : List C).
-      p .least (map (λ d. edge d (edgeFor nd d .weight) (getD later (edgeFor nd d .target - suc i) (p .terminal))) (p .values (nd .var))) ∷ later)
-      (h 0 nd here) (froms-agree (suc i) nodes (λ j nd a. h (suc j) nd (there a)))
+      let later = leastFroms p (suc i) nodes in
+      let from : ℕ → C = λ k. getD later (k - suc i) (p .terminal) in
+      ap (λ (c : C). c ∷ later)
+      (ap (p .least) (map-agree (byEdge p nd from) (byEdge changed nd from) (p .values (nd .var)) (λ k d a. ap (λ (edge : ℕ → C → C). edge (edgeFor nd d .weight) (from (edgeFor nd d .target))) (h 0 nd here k d a))))
+      ∙ ap (λ (later : List C). leastAt changed nd (λ k. getD later (k - suc i) (p .terminal)) ∷ later) (froms-agree (suc i) nodes (λ j nd a. h (suc j) nd (there a)))
 
   -- both find the same
   pub pass-agrees : (nodes : List Node) → Agree nodes → (k : ℕ) → leastFrom p nodes k ≡ leastFrom changed nodes k

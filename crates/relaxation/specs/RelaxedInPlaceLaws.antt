@@ -7,18 +7,16 @@ use lib.ListN.{length, getD, set as setAt, replicate}
 use Rattle.facts.specs.Lists.{At}
 use Rattle.facts.specs.ListLaws.{at-getD, all-at}
 use Rattle.facts.specs.Fields.{wordAt}
-use Rattle.taskfile.specs.Task.{Edge, Node, maxValues}
-use Rattle.taskfile.specs.TaskFile.{edgeBytes}
+use Rattle.taskfile.specs.Task.{Edge, maxValues}
 use Rattle.taskfile.specs.WalkInPlace.{incomingPlace, nodeCount}
-use Rattle.taskfile.specs.PartsInPlace.{edgeIn, nodeIn, actionIn}
-use Rattle.taskfile.specs.PartsInPlaceLaws.{edges-at, nodes-long, nodes-at}
+use Rattle.taskfile.specs.PartsInPlace.{nodeIn, actionIn}
 use Rattle.relaxation.specs.Least.{leastOf}
 use Rattle.relaxation.specs.LeastLaws.{map-agree, least-taken}
 use Rattle.relaxation.specs.Relaxed.{valuesFrom, valuesIn, SetInside}
-use Rattle.relaxation.specs.Pass.{edgeFor, byEdge, leastAt, Filled}
-use Rattle.relaxation.specs.PassLaws.{filled-start, filled-next, filled-first}
+use Rattle.relaxation.specs.Pass.{byEdge, leastAt, Filled}
+use Rattle.relaxation.specs.PassInPlaceLaws.{edge-there, node-there, table-start, table-next, table-end}
 use Rattle.relaxation.specs.RelaxedPass.{relaxedPass, relaxedByPass}
-use Rattle.relaxation.specs.RelaxedLaws.{withBit, no-values, set-below, set-some, costs, inside-set, at-value, relaxed-above}
+use Rattle.relaxation.specs.RelaxedLaws.{withBit, no-values, set-below, set-some, costs, inside-set, relaxed-above}
 use Rattle.relaxation.specs.RelaxedInPlace.{costFor, greatest, Choosing, Relaxable}
 
 -- ---- the greatest entry
@@ -72,8 +70,7 @@ module _ (f sizes sets table : List ℕ) (node : ℕ) where
     least-there =
         ap (λ (ds : List ℕ). leastOf min 0 (map (costFor f node table) ds)) (sym (values-all inside few))
         ∙ ap (leastOf min 0) (map-agree (costFor f node table) (byEdge (relaxedPass sets) (nodeIn f sizes node) (λ t. getD table t 0)) (valuesIn set) (λ k d a.
-        let there = edges-at f (node + 1) size d (node + (1 + edgeBytes * d)) (all-at (λ d. d < size) (set-below inside) a) (omega arith) in
-        ap (λ (e : Edge). e .weight + getD table (e .target) 0) (at-value (record { target = 0; weight = 0 }) there refl)))
+        ap (λ (e : Edge). e .weight + getD table (e .target) 0) (sym (edge-there f sizes node d (all-at (λ d. d < size) (set-below inside) a)))))
 
     -- the same, of what was read
     module _ {v n s : ℕ} (v-is : v ≡ variable) (n-is : n ≡ getD sizes v 0) (s-is : s ≡ getD sets v 0) where
@@ -139,27 +136,18 @@ module _ {costOf : ℕ → ℕ} {size set top b : ℕ} where
 
 -- ---- the table of an action in place
 
-zeros-at : (n t : ℕ) → _≡_ {A = ℕ} (getD (replicate n 0) t 0) 0
-zeros-at zero t = refl
-zeros-at (suc n) zero = refl
-zeros-at (suc n) (suc t) = zeros-at n t
-
 module _ {f sizes : List ℕ} {at : ℕ} {offsets sets : List ℕ} (r : Relaxable f sizes at offsets sets) where
-  -- its nodes
-  abbrev pub nodes : List Node
-  nodes = actionIn f sizes at offsets .nodes
-
   -- the table from number k on
   abbrev pub Least : ℕ → List ℕ → Type 0
-  Least k table = Filled (relaxedPass sets) (λ n. n) nodes k table
+  Least k table = Filled (relaxedPass sets) (λ n. n) (actionIn f sizes at offsets .nodes) k table
 
   module _ {j node : ℕ} (l : j < nodeCount f at) (n : node ≡ getD offsets j 0) where
-    node-there : At nodes j (nodeIn f sizes node)
-    node-there = rw n (nodes-at f sizes offsets 0 (nodeCount f at) j j l (omega arith))
+    there : At (actionIn f sizes at offsets .nodes) j (nodeIn f sizes node)
+    there = node-there f sizes offsets l n
 
     -- its variable
     variable-there : getD f node 0 < length sizes
-    variable-there = r .wf .nodes node-there .var-below
+    variable-there = r .wf .nodes there .var-below
 
     -- the set at a node
     pub set-there : SetInside (getD sizes (getD f node 0) 0) (getD sets (getD f node 0) 0)
@@ -172,14 +160,13 @@ module _ {f sizes : List ℕ} {at : ℕ} {offsets sets : List ℕ} (r : Relaxabl
     -- one entry more
     pub least-next : {k e : ℕ} {table : List ℕ} → k ≡ suc j → Least k table → k < length table
         → e ≡ leastAt (relaxedPass sets) (nodeIn f sizes node) (λ t. getD table t 0) → Least j (setAt table k e)
-    least-next {e = e} {table = table} same full room is =
-        rw same (filled-next (relaxedPass sets) (λ n. n) (subst (λ (k : ℕ). Least k table) same full) node-there (relaxed-above (r .wf) (r .small) sets (r .inside) node-there) (omega arith) is)
+    least-next {e = e} = table-next (relaxedPass sets) (λ n. n) f sizes offsets (nodeCount f at) e l n (relaxed-above (r .wf) (r .small) sets (r .inside) there)
 
   -- no entry yet
   pub least-start : (n : ℕ) {k : ℕ} → k ≡ nodeCount f at → Least k (replicate n 0)
-  least-start n e = filled-start (relaxedPass sets) (λ n. n) (zeros-at n) (omega (arith, nodes-long f sizes offsets 0 (nodeCount f at)))
+  least-start n = table-start (relaxedPass sets) (λ n. n) f sizes offsets (nodeCount f at) n refl
 
   -- all entries
   pub least-end : {incoming k : ℕ} {table : List ℕ} → incoming ≡ wordAt f (incomingPlace f at) → k < 1 → Least k table → incoming + getD table 1 0 ≡ relaxedByPass (actionIn f sizes at offsets) sets
   unfolding relaxedByPass
-  least-end w none full = ap₂ _+_ w (filled-first (relaxedPass sets) (λ n. n) none full)
+  least-end w none full = ap₂ _+_ w (table-end (relaxedPass sets) (λ n. n) f sizes offsets (nodeCount f at) none full)

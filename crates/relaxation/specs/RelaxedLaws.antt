@@ -11,8 +11,8 @@ use Rattle.facts.specs.ListLaws.{at-getD, all-at}
 use Rattle.taskfile.specs.Task.{Node, Action, maxValues, WfAction}
 use Rattle.relaxation.specs.Least.{leastOf, leastOver, valuesSum, MinPlus}
 use Rattle.relaxation.specs.Relaxed.{valuesFrom, valuesIn, SetInside, RelaxedInside, relaxedCost}
-use Rattle.relaxation.specs.PassLaws.{Above, pass-agrees}
-use Rattle.relaxation.specs.LeastByPass.{weighed, Usable, Choices, last, next, edge-wf, least-by-pass}
+use Rattle.relaxation.specs.PassLaws.{at-value, Above, edges-above, pass-agrees}
+use Rattle.relaxation.specs.LeastByPass.{weighed, Usable, Choices, last, next, least-by-pass}
 use Rattle.relaxation.specs.RelaxedPass.{relaxedPass, relaxedByPass}
 
 -- ---- the values of a set
@@ -88,13 +88,6 @@ inside-set v nil l = absurd (omega arith)
 inside-set zero (cons r z) l = r
 inside-set (suc v) (cons r z) l = inside-set v z (omega arith)
 
--- the element at an index, by its number
-pub at-value : {A : Type 0} (none : A) {xs : List A} {k q : ℕ} {y : A} → At xs k y → q ≡ k → y ≡ getD xs q none
-at-value none {q = zero} here e = refl
-at-value none {q = suc q} here e = absurd (omega arith)
-at-value none {q = zero} (there a) e = absurd (omega arith)
-at-value none {q = suc q} (there a) e = at-value none a (omega arith)
-
 module _ {sizes : List ℕ} {x : Action} (wf : WfAction sizes x) (small : All (λ d. d ≤ maxValues) sizes) (sets : List ℕ) (inside : RelaxedInside sizes sets) where
   -- the values that the pass goes by
   abbrev setValues : ℕ → List ℕ
@@ -110,7 +103,7 @@ module _ {sizes : List ℕ} {x : Action} (wf : WfAction sizes x) (small : All (�
 
   -- the edges for values in the sets lead up
   pub relaxed-above : {j : ℕ} {nd : Node} → At (x .nodes) j nd → Above (relaxedPass sets) (suc j) nd
-  relaxed-above h k d a = edge-wf costs 0 nothing setValues wf usable h a .above
+  relaxed-above h = edges-above (relaxedPass sets) wf h (usable .inside h)
 
   -- the sets of the variables from v on
   choices-from : (v : ℕ) {sizes-left sets-left : List ℕ} → RelaxedInside sizes-left sets-left → All (λ d. d ≤ maxValues) sizes-left → v + length sizes-left ≡ length sizes
@@ -129,4 +122,4 @@ module _ {sizes : List ℕ} {x : Action} (wf : WfAction sizes x) (small : All (�
       ∙ least-by-pass costs 0 nothing setValues wf usable (choices-from 0 inside small (omega arith) (λ k q set a e. at-value 0 a (omega arith)))
       ∙ ap (λ c. x .incoming + c)
       (pass-agrees (weighed _+_ min (λ (n : ℕ). n) 0 nothing setValues) (relaxedPass sets .across) (x .nodes)
-      (λ j nd a. fun-ext (λ d. fun-ext (λ w. fun-ext (λ later. omega arith)))) 1)
+      (λ j nd a k d b. fun-ext (λ w. fun-ext (λ later. omega arith))) 1)

@@ -98,10 +98,14 @@ module _ (f : List ℕ) {i : Index} (ready : Ready f i) where
 
   -- ---- what is asked about an action
 
+  action-missing : (a : ℕ) → i .actions ≤ a → actionOf (t .actions) a ≡ refused 11 0
+  unfolding actionOf
+  action-missing a l = rw (look-none (t .actions) a (omega (arith, there .actions)), actionOf)
+
   module _ (checked : List ℕ → List ℕ → Read (Unit {0})) (answer : Action → List ℕ → ℕ) (a : ℕ) (s : List ℕ) where
     pub ask-missing : i .actions ≤ a → askTask checked answer f a s ≡ refused 11 0
-    unfolding askTask actionOf
-    ask-missing l = rw (there .reads, look-none (t .actions) a (omega (arith, there .actions)), actionOf)
+    unfolding askTask
+    ask-missing l = rw (there .reads) (ap (λ (r : Read Action). _>>=_ r (λ x. _>>=_ (checked (t .sizes) s) (λ u. accepted (answer x s)))) (action-missing a l))
 
     module _ (l : a < i .actions) where
       abbrev none-such : Action

@@ -38,9 +38,10 @@ pub fn walk_at(file: &[u8], at: usize, nodes: &[usize], state: &[u8]) -> Walked
     ensures { λ r. ⌜ (r .cost ≡ walkAt (now (file .entry)) at (now (nodes .entry)) (now (state .entry)) .cost) × (r .passed ≡ walkAt (now (file .entry)) at (now (nodes .entry)) (now (state .entry)) .passed) × (r .cost ≤ maxWalk) × (r .passed ≤ maxPassed) ⌝ }
 {
     let diagram = diagram_at(file, at);
+    let weight = diagram.incoming;
     let way = way_up(file, nodes, diagram.count, state);
     Walked {
-        cost: diagram.incoming + way.cost,
+        cost: weight + way.cost,
         passed: way.passed,
     }
 }

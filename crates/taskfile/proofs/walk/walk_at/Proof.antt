@@ -8,10 +8,10 @@ use Rattle.taskfile.proofs.walk.walk_at.Tie as tie
 
 returns : tie.Need-returns
 returns c =
-    let a = c .before .before .before .before .before .before .before .args in
+    let a = c .before .before .before .before .before .before .args in
     let f = now (a .file) in
-    let d = c .before .before .before .diagram-at .ensures in
-    let y = c .before .before .way-up .ensures in (
+    let d = c .before .before .diagram-at .ensures in
+    let y = c .before .way-up .ensures in (
       cost-is f (a .at) (now (a .nodes)) (now (a .state)) (d .0) (d .1) (y .0),
       passed-is f (a .at) (now (a .nodes)) (now (a .state)) (d .0) (d .1) (y .1),
       omega (arith, d .2, d .3, y .2),

@@ -1,0 +1,39 @@
+-- The least cost of an action by the old numbers, and the actions of a task for the heuristic, in place.
+use mathlib.Core.Path.{_≡_}
+use Prim.Native.Nat.{ℕ, zero, suc, _+_, _*_, _≤_, _<_}
+use mathlib.Core.List.{List, [], _∷_, map}
+use lib.ListN.{length, getD, drop}
+use Rattle.facts.specs.Lists.{All}
+use Rattle.facts.specs.Partial.{partialAt}
+use Rattle.facts.specs.WellFormed.{WfPartial}
+use Rattle.estimate.specs.Number.{Number, capped, sum, ranked}
+use Rattle.estimate.specs.Additive.{Achiever, WfAchiever}
+use Rattle.estimate.specs.Facts.{mostFacts}
+use Rattle.estimate.specs.Ranks.{Roomy}
+use Rattle.taskfile.specs.Task.{maxNodes, WfAction}
+use Rattle.taskfile.specs.TaskFile.{edgeBytes}
+use Rattle.taskfile.specs.WalkInPlace.{nodeCount}
+use Rattle.taskfile.specs.PartsInPlace.{edgeIn, actionIn, actionsIn}
+use Rattle.relaxation.specs.Estimate.{actionAchiever}
+use Rattle.relaxation.specs.EstimatePass.{leastCostByPass}
+
+-- by the edge, for the value d of its variable v, of the node at an offset; a table has the ranks of the least from each later node on
+abbrev pub numberFor : List ℕ → ℕ → (ℕ → ℕ → Number) → ℕ → List ℕ → ℕ → Number
+numberFor f node of v table d = let e = edgeIn f (node + (1 + edgeBytes * d)) in sum (capped (e .weight)) (sum (of v d) (ranked (getD table (e .target) 0)))
+
+-- the action at an offset, for the heuristic
+abbrev pub achieverIn : List ℕ → List ℕ → ℕ → List ℕ → Achiever
+achieverIn f sizes at offsets = actionAchiever leastCostByPass sizes (actionIn f sizes at offsets)
+
+-- an action that stands in an accepted file with these domain sizes: within the file, well-formed, and with few nodes
+pub record Priceable (f sizes : List ℕ) (at : ℕ) (offsets : List ℕ) : Type 0 where
+  pub fits : at ≤ length f
+  pub wf : WfAction sizes (actionIn f sizes at offsets)
+  pub few : nodeCount f at ≤ maxNodes
+
+-- Domain sizes, goal and actions as they stand in a file, well-formed, so that rounds end on their estimate: `actions` has the offset of each action,
+-- `firsts` the index of its first node in `nodes`.
+pub record Estimable (f sizes : List ℕ) (goal : ℕ) (actions firsts nodes : List ℕ) : Type 0 where
+  pub room : Roomy sizes mostFacts
+  pub goal-is : WfPartial sizes (partialAt f goal)
+  pub action : (a : ℕ) → a < length actions → Priceable f sizes (getD actions a 0) (drop (getD firsts a 0) nodes)
