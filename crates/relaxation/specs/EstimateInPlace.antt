@@ -1,13 +1,11 @@
 -- The least cost of an action by the old numbers, and the actions of a task for the heuristic, in place.
-use mathlib.Core.Path.{_≡_}
-use Prim.Native.Nat.{ℕ, zero, suc, _+_, _*_, _≤_, _<_}
-use mathlib.Core.List.{List, [], _∷_, map}
+use Prim.Native.Nat.{ℕ, _+_, _*_, _≤_, _<_}
+use mathlib.Core.List.{List, map}
 use lib.ListN.{length, getD, drop}
-use Rattle.facts.specs.Lists.{All}
 use Rattle.facts.specs.Partial.{partialAt}
 use Rattle.facts.specs.WellFormed.{WfPartial}
 use Rattle.estimate.specs.Number.{Number, capped, sum, ranked}
-use Rattle.estimate.specs.Additive.{Achiever, WfAchiever}
+use Rattle.estimate.specs.Additive.{Achiever}
 use Rattle.estimate.specs.Facts.{mostFacts}
 use Rattle.estimate.specs.Ranks.{Roomy}
 use Rattle.taskfile.specs.Task.{maxNodes, WfAction}
@@ -24,6 +22,10 @@ numberFor f node of v table d = let e = edgeIn f (node + (1 + edgeBytes * d)) in
 -- the action at an offset, for the heuristic
 abbrev pub achieverIn : List ℕ → List ℕ → ℕ → List ℕ → Achiever
 achieverIn f sizes at offsets = actionAchiever leastCostByPass sizes (actionIn f sizes at offsets)
+
+-- `count` actions from number a on: `actions` has the offset of each, `firsts` the index of its first node in `nodes`
+abbrev pub achieversIn : List ℕ → List ℕ → List ℕ → List ℕ → List ℕ → ℕ → ℕ → List Achiever
+achieversIn f sizes actions firsts nodes a count = map (actionAchiever leastCostByPass sizes) (actionsIn f sizes actions firsts nodes a count)
 
 -- an action that stands in an accepted file with these domain sizes: within the file, well-formed, and with few nodes
 pub record Priceable (f sizes : List ℕ) (at : ℕ) (offsets : List ℕ) : Type 0 where

@@ -1,15 +1,19 @@
 -- Laws of the least cost by the old numbers in place, and of the actions of a task for the heuristic.
-use mathlib.Core.Path.{_≡_, refl, sym, ap, ap₂, _∙_}
+use mathlib.Core.Path.{_≡_, refl, sym, ap, ap₂, subst, _∙_}
 use Prim.Native.Nat.{ℕ, zero, suc, _+_, _-_, _≤_, _<_}
+use native.Mathlib.Numerals.{add-one}
 use native.Mathlib.Omega.{arith}
 use mathlib.Core.List.{List, [], _∷_, map}
-use lib.ListN.{length, getD, set, replicate}
+use lib.ListN.{length, getD, drop, set, replicate}
 use borrow.Author.Tests.{le-leb}
 use Rattle.facts.specs.Lists.{upFrom, All, At}
 use Rattle.facts.specs.ListLaws.{all-at}
+use Rattle.facts.specs.Partial.{partialAt, pastPartial}
 use Rattle.facts.specs.Fields.{wordAt}
 use Rattle.estimate.specs.Number.{Number, exact, never, largest, capped, sum, lesser, ranked}
-use Rattle.estimate.specs.Additive.{WfAchiever}
+use Rattle.estimate.specs.Additive.{sumFrom, Achiever, offerOf, offersBy, WfAchiever}
+use Rattle.estimate.specs.Ranks.{rankNumber, HasRanks, afterOffer}
+use Rattle.estimate.specs.OfferLaws.{offer-same, Heard, heard-more, heard-all}
 use Rattle.taskfile.specs.Task.{Edge, Action, maxWeight, WfAction}
 use Rattle.taskfile.specs.WalkInPlace.{incomingPlace, nodeCount}
 use Rattle.taskfile.specs.PartsInPlace.{nodeIn, actionIn}
@@ -21,7 +25,7 @@ use Rattle.relaxation.specs.PassInPlaceLaws.{edge-there, node-there, tab
 use Rattle.relaxation.specs.Estimate.{actionAchiever}
 use Rattle.relaxation.specs.EstimatePass.{numberPass, leastCostByPass}
 use Rattle.relaxation.specs.LeastCostLaws.{numbers, upFrom-below}
-use Rattle.relaxation.specs.EstimateInPlace.{numberFor, Priceable}
+use Rattle.relaxation.specs.EstimateInPlace.{numberFor, achieverIn, achieversIn, Priceable, Estimable}
 
 -- a weight is exact
 pub weight-exact : (w : ℕ) → w ≤ maxWeight → exact w ≡ capped w
@@ -118,3 +122,43 @@ module _ {f sizes : List ℕ} {at : ℕ} {offsets : List ℕ} (r : Priceable f s
   unfolding leastCostByPass
   ranked-end {incoming} w small none full =
       ap₂ sum (weight-exact incoming small ∙ ap capped w) (table-end (numberPass sizes of) ranked f sizes offsets (nodeCount f at) none full)
+
+-- ---- the offers of actions
+
+-- the offer of the action at an offset, from its parts
+pub action-offered : (f sizes : List ℕ) (at : ℕ) (offsets : List ℕ) (old of : ℕ → ℕ → Number) {effect : ℕ} {offer : Number} {ranks : List ℕ} → effect ≡ pastPartial f at
+    → offer ≡ sum (sumFrom old 0 (length sizes) (partialAt f at)) (leastCostByPass sizes old (actionIn f sizes at offsets))
+    → HasRanks ranks (afterOffer (record { effect = partialAt f effect; number = offer }) of)
+    → HasRanks ranks (afterOffer (offerOf (length sizes) old (achieverIn f sizes at offsets)) of)
+action-offered f sizes at offsets old of e o h = offer-same of (ap (partialAt f) (sym e)) (sym o) h
+
+module _ (f sizes actions firsts nodes : List ℕ) (old : ℕ → ℕ → Number) where
+  -- the offers of the actions from number a on are left
+  abbrev pub HeardFrom : ℕ → (ℕ → ℕ → Number) → List ℕ → Type 0
+  HeardFrom a whole ranks = Heard (offersBy (length sizes) old (achieversIn f sizes actions firsts nodes a (length actions - a))) whole ranks
+
+  -- one action more
+  pub actions-more : (a : ℕ) (whole : ℕ → ℕ → Number) {ranks next own : List ℕ} → HeardFrom a whole ranks → a < length actions → length next ≡ length ranks → own ≡ drop (getD firsts a 0) nodes
+      → HasRanks next (afterOffer (offerOf (length sizes) old (achieverIn f sizes (getD actions a 0) own)) (rankNumber ranks)) → HeardFrom (a + 1) whole next
+  actions-more a whole {ranks} {next} g l same own-is h =
+      let more : length actions - a ≡ suc (length actions - (a + 1)) = omega arith in
+      let split = ap (λ (count : ℕ). achieversIn f sizes actions firsts nodes a count) more ∙ ap (λ (b : ℕ). achieverIn f sizes (getD actions a 0) (drop (getD firsts a 0) nodes) ∷ achieversIn f sizes actions firsts nodes b (length actions - (a + 1))) (sym (add-one a)) in
+      heard-more (subst (λ (achievers : List Achiever). Heard (offersBy (length sizes) old achievers) whole ranks) split g) same
+      (subst (λ (os : List ℕ). HasRanks next (afterOffer (offerOf (length sizes) old (achieverIn f sizes (getD actions a 0) os)) (rankNumber ranks))) own-is h)
+
+  -- past the last action
+  pub actions-all : (a : ℕ) (whole : ℕ → ℕ → Number) {ranks : List ℕ} → HeardFrom a whole ranks → length actions ≤ a → HasRanks ranks whole
+  actions-all a whole {ranks} g l =
+      let none : length actions - a ≡ 0 = omega arith in
+      heard-all (subst (λ (count : ℕ). Heard (offersBy (length sizes) old (achieversIn f sizes actions firsts nodes a count)) whole ranks) none g)
+
+-- all are well-formed
+achievers-from : (f sizes actions firsts nodes : List ℕ) (a count : ℕ)
+    → ((q : ℕ) → q < a + count → Priceable f sizes (getD actions q 0) (drop (getD firsts q 0) nodes)) → All (WfAchiever sizes) (achieversIn f sizes actions firsts nodes a count)
+achievers-from f sizes actions firsts nodes a zero h = tt
+achievers-from f sizes actions firsts nodes a (suc count) h =
+    (achiever-wf (h a (omega arith) .wf), achievers-from f sizes actions firsts nodes (suc a) count (λ q l. h q (omega arith)))
+
+pub achievers-wf : {f sizes : List ℕ} {goal : ℕ} {actions firsts nodes : List ℕ} → Estimable f sizes goal actions firsts nodes
+    → All (WfAchiever sizes) (achieversIn f sizes actions firsts nodes 0 (length actions))
+achievers-wf {f} {sizes} {goal} {actions} {firsts} {nodes} e = achievers-from f sizes actions firsts nodes 0 (length actions) (λ q l. e .action q (omega arith))

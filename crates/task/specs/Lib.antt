@@ -1,6 +1,7 @@
 -- Definitions.
 pub mod Answers
 pub mod RelaxedTask
+pub mod EstimateTask
 -- The document's cases, computed.
 pub mod Examples
 -- Laws.

@@ -1,6 +1,9 @@
-// Operations on task files: checked, costed, also in relaxed states, and run.
+// Operations on task files: checked, costed, also in relaxed states, run and estimated.
+mod price;
 mod relaxed;
+mod rounds;
 
+use estimate::Estimated;
 use facts::Checked;
 use facts::Ran;
 use facts::Refusal;
@@ -14,7 +17,12 @@ ghost use Rattle.facts.specs.Answers.{checkedAnswer, ranAnswer};
 ghost use Rattle.taskfile.specs.TaskFile.{checkTask, costTask, runTask};
 ghost use Rattle.taskfile.specs.Index.{Ready};
 ghost use Rattle.task.specs.Answers.{costedAnswer};
+ghost use Rattle.estimate.specs.Answers.{estimatedAnswer};
 ghost use Rattle.task.specs.RelaxedTask.{relaxedTask};
+ghost use Rattle.task.specs.EstimateTask.{estimateTask};
+
+// A table by number has an entry for each node and for the terminal, and one at 0.
+const NUMBERS: usize = Task::MAX_NODES + 2;
 
 // What an action costs.
 pub enum Costed {
@@ -148,4 +156,49 @@ fn run_in(file: &[u8], task: Task, list: &[u16]) -> Ran
         &mut state[..variables],
     );
     run.answer
+}
+
+// The estimate from a state: the file's refusals, then 12 and 4 for the state.
+pub fn estimate(file: &[u8], state: &[u8]) -> Estimated
+    ensures { λ r. ⌜ estimatedAnswer r ≡ estimateTask (now (file .entry)) (now (state .entry)) ⌝ }
+{
+    let indexed = index_of(file);
+    let answer = indexed.answer;
+    match answer {
+        Checked::Refused(why) => Estimated::Refused(why),
+        Checked::Accepted => {
+            let task = indexed.task;
+            estimate_in(file, task, state)
+        }
+    }
+}
+
+// The same, of a file that is accepted.
+fn estimate_in(file: &[u8], task: Task, state: &[u8]) -> Estimated
+    requires { ⌜ Ready (now file) task ⌝ }
+    ensures { λ r. ⌜ estimatedAnswer r ≡ estimateTask (now (file .entry)) (now (state .entry)) ⌝ }
+{
+    let variables = task.variables;
+    let actions = task.actions;
+    let init = 1 + variables;
+    let sizes = &file[1..init];
+    match facts::state::check_state(sizes, state) {
+        Checked::Refused(why) => Estimated::Refused(why),
+        Checked::Accepted => {
+            let starts = task.starts;
+            let firsts = task.firsts;
+            let nodes = task.nodes;
+            let goal = init + variables;
+            let number = rounds::settle(
+                file,
+                sizes,
+                goal,
+                &starts[..actions],
+                &firsts,
+                &nodes,
+                state,
+            );
+            Estimated::Number(number)
+        }
+    }
 }

@@ -48,7 +48,7 @@ pub fn relaxed_at(file: &[u8], sizes: &[u8], at: usize, nodes: &[usize], sets: &
     ensures { λ r. ⌜ r ≡ relaxedByPass (actionIn (now (file .entry)) (now (sizes .entry)) at (now (nodes .entry))) (now (sets .entry)) ⌝ }
 {
     let diagram = diagram_at(file, at);
-    let mut least: [u32; 66] = [0; 66];
+    let mut least: [u32; 66] = [0; crate::NUMBERS];
     let mut k = diagram.count;
     while 0 < k {
         let from = least_at(file, sizes, offset_at(nodes, k - 1), sets, &least);
