@@ -12,8 +12,8 @@ use Rattle.facts.specs.Partial.{partialAt, pastPartial}
 use Rattle.facts.specs.Fields.{wordAt}
 use Rattle.estimate.specs.Number.{Number, exact, never, largest, capped, sum, lesser, ranked}
 use Rattle.estimate.specs.Additive.{sumFrom, Achiever, offerOf, offersBy, WfAchiever}
-use Rattle.estimate.specs.Ranks.{rankNumber, HasRanks, afterOffer}
-use Rattle.estimate.specs.OfferLaws.{offer-same, Heard, heard-more, heard-all}
+use Rattle.estimate.specs.Ranks.{rankNumber, HasRanks, afterOffer, afterOffers}
+use Rattle.estimate.specs.OfferLaws.{offer-same, Heard, heard-none, heard-more, heard-all}
 use Rattle.taskfile.specs.Task.{Edge, Action, maxWeight, WfAction}
 use Rattle.taskfile.specs.WalkInPlace.{incomingPlace, nodeCount}
 use Rattle.taskfile.specs.PartsInPlace.{nodeIn, actionIn}
@@ -136,6 +136,13 @@ module _ (f sizes actions firsts nodes : List ℕ) (old : ℕ → ℕ → Number
   -- the offers of the actions from number a on are left
   abbrev pub HeardFrom : ℕ → (ℕ → ℕ → Number) → List ℕ → Type 0
   HeardFrom a whole ranks = Heard (offersBy (length sizes) old (achieversIn f sizes actions firsts nodes a (length actions - a))) whole ranks
+
+  -- before the first action
+  pub actions-none : (ranks : List ℕ) → HeardFrom 0 (afterOffers (offersBy (length sizes) old (achieversIn f sizes actions firsts nodes 0 (length actions))) (rankNumber ranks)) ranks
+  actions-none ranks =
+      let all : length actions ≡ length actions - 0 = omega arith in
+      subst (λ (count : ℕ). Heard (offersBy (length sizes) old (achieversIn f sizes actions firsts nodes 0 count)) (afterOffers (offersBy (length sizes) old (achieversIn f sizes actions firsts nodes 0 (length actions))) (rankNumber ranks)) ranks) all
+      (heard-none (offersBy (length sizes) old (achieversIn f sizes actions firsts nodes 0 (length actions))) ranks)
 
   -- one action more
   pub actions-more : (a : ℕ) (whole : ℕ → ℕ → Number) {ranks next own : List ℕ} → HeardFrom a whole ranks → a < length actions → length next ≡ length ranks → own ≡ drop (getD firsts a 0) nodes

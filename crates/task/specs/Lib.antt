@@ -6,3 +6,4 @@ pub mod EstimateTask
 pub mod Examples
 -- Laws.
 pub mod RelaxedTaskLaws
+pub mod EstimateTaskLaws

@@ -1,55 +1,31 @@
+-- `task::rounds::offer_action` meets its contract: the precondition's sum and the least cost are offered to the effect. Assumes nothing.
+use mathlib.Core.Path.{ap₂, _∙_}
+use native.Mathlib.Omega.{arith}
+use denote.Ref.{now}
+use Rattle.facts.specs.InPlaceLaws.{past-is}
+use Rattle.estimate.specs.Number.{sum}
+use Rattle.estimate.specs.Ranks.{rankNumber}
+use Rattle.relaxation.specs.EstimateInPlaceLaws.{action-offered}
 use borrow.Author.Needs.{needs}
 use Rattle.task.proofs.rounds.offer_action.Statement.{statement}
 use Rattle.task.proofs.rounds.offer_action.Tie as tie
-use Rattle.task.proofs.rounds.offer_action.Reads as reads
-use Rattle.task.proofs.rounds.offer_action.Lts as lts
-use Rattle.estimate.proofs.offers.lower_at.Reads as lower-at-reads
-use Rattle.estimate.proofs.offers.sum_at.Reads as sum-at-reads
-use Rattle.estimate.proofs.sum.Reads as sum-reads
-use Rattle.facts.proofs.partial.length_at.Reads as length-at-reads
-use Rattle.task.proofs.price.least_cost.Reads as least-cost-reads
 
--- src/rounds.rt:72:23
-length-at-requires : tie.Need-length-at-requires
-length-at-requires c κs = search needs
-
--- src/rounds.rt:72:18
-add-effect : tie.Need-add-effect
-add-effect c = search needs
-
--- src/rounds.rt:73:9
-sum-at-requires : tie.Need-sum-at-requires
-sum-at-requires c κs = search needs
-
--- src/rounds.rt:74:38
-least-cost-requires : tie.Need-least-cost-requires
-least-cost-requires c κs = search needs
-
--- src/rounds.rt:74:9
-sum-requires : tie.Need-sum-requires
-sum-requires c κs = search needs
-
--- src/rounds.rt:75:5
-lower-at-requires : tie.Need-lower-at-requires
-lower-at-requires c κs = search needs
-
--- src/rounds.rt:61:1
-same-length : tie.Need-same-length
-same-length c = search needs
-
--- src/rounds.rt:61:1
 returns : tie.Need-returns
-returns c = ?
+returns c =
+    let a = c .before .before .before .before .before .before .before .before .before .before .before .before .before .args in
+    let f = now (a .file) in
+    let offer = c .before .before .before .before .sum .ensures ∙ ap₂ sum (c .before .before .before .before .before .before .sum-at .ensures) (c .before .before .before .before .before .least-cost .ensures) in
+    action-offered f (now (a .sizes)) (a .at) (now (a .nodes)) (rankNumber (now (a .old))) (rankNumber (now (a .new))) (past-is f (a .at) (c .before .before .before .before .before .before .before .length-at .ensures .0)) offer (c .before .before .lower-at .ensures)
 
 pub offer-action-spec : {M : Type 1} → statement M
 offer-action-spec =
     tie.close
     (tie.spec
-    length-at-requires
-    add-effect
-    sum-at-requires
-    least-cost-requires
-    sum-requires
-    lower-at-requires
-    same-length
+    (λ c κs. search needs)
+    (λ c. omega (arith, c .length-at .ensures .1, c .before .before .before .before .before .before .pre .fits))
+    (λ c κs. search needs)
+    (λ c κs. c .before .before .before .before .before .before .before .pre)
+    (λ c κs. search needs)
+    (λ c κs. search needs)
+    (λ c. search needs)
     returns)

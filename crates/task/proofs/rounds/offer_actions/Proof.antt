@@ -1,71 +1,49 @@
+-- `task::rounds::offer_actions` meets its contract: the offers of the actions that are left make the whole. Assumes nothing.
+use mathlib.Core.Path.{_≡_, refl, sym, _∙_, subst}
+use Prim.Native.Nat.{ℕ, _-_, _≤_}
+use native.Mathlib.Omega.{arith}
+use mathlib.Core.List.{List}
+use lib.ListN.{length, getD}
+use denote.Ref.{now}
+use Rattle.estimate.specs.Additive.{offersBy}
+use Rattle.estimate.specs.Ranks.{rankNumber, afterOffers}
+use Rattle.taskfile.specs.MoveInPlaceLaws.{own-nodes}
+use Rattle.relaxation.specs.EstimateInPlace.{achieversIn, Priceable}
+use Rattle.relaxation.specs.EstimateInPlaceLaws.{HeardFrom, actions-none, actions-more, actions-all}
+use borrow.Author.Needs.{needs}
 use Rattle.task.proofs.rounds.offer_actions.Statement.{statement}
 use Rattle.task.proofs.rounds.offer_actions.Tie as tie
-use Rattle.task.proofs.rounds.offer_actions.Reads as reads
-use Rattle.task.proofs.rounds.offer_actions.Lts as lts
-use Rattle.facts.proofs.number.offset_within.Reads as offset-within-reads
-use Rattle.task.proofs.rounds.offer_action.Reads as offer-action-reads
 
 abbrev Inv-loop : tie.InvT-loop
-Inv-loop file sizes action-at first-node node-at old new₀ a₀ a-end new a = ?
+Inv-loop file sizes actions firsts nodes old new₀ a₀ end new a =
+    (a ≤ length actions) × (length new ≡ length new₀)
+    × HeardFrom file sizes actions firsts nodes (rankNumber old) a (afterOffers (offersBy (length sizes) (rankNumber old) (achieversIn file sizes actions firsts nodes 0 (length actions))) (rankNumber new₀)) new
 
 abbrev μ-loop : tie.MeasureT-loop
-μ-loop file sizes action-at first-node node-at old new₀ a₀ a-end new a = ?
+μ-loop file sizes actions firsts nodes old new₀ a₀ end new a = length actions - a
 
--- src/rounds.rt:54:5
-loop-holds : tie.Need-loop-holds Inv-loop μ-loop
-loop-holds c = ?
-
--- src/rounds.rt:55:13
-offset-within-requires : tie.Need-offset-within-requires Inv-loop μ-loop
-offset-within-requires c κs = ?
-
--- src/rounds.rt:56:35
-mul-offer-action : tie.Need-mul-offer-action Inv-loop μ-loop
-mul-offer-action c = ?
-
--- src/rounds.rt:56:35
-shared-slice-read-offer-action : tie.Need-shared-slice-read-offer-action Inv-loop μ-loop
-shared-slice-read-offer-action c = ?
-
--- src/rounds.rt:56:49
-mul-offer-action-2 : tie.Need-mul-offer-action-2 Inv-loop μ-loop
-mul-offer-action-2 c = ?
-
--- src/rounds.rt:56:49
-sub-offer-action : tie.Need-sub-offer-action Inv-loop μ-loop
-sub-offer-action c = ?
-
--- src/rounds.rt:56:49
-part-offer-action-start : tie.Need-part-offer-action-start Inv-loop μ-loop
-part-offer-action-start c = ?
-
--- src/rounds.rt:56:49
-part-offer-action-end : tie.Need-part-offer-action-end Inv-loop μ-loop
-part-offer-action-end c = ?
-
--- src/rounds.rt:56:9
 offer-action-requires : tie.Need-offer-action-requires Inv-loop μ-loop
-offer-action-requires c κs = ?
+offer-action-requires c κs =
+    let s = c .before .before .before .before .before .before .before .before .before .before .before .before .before in
+    let a = c .before .before .before .before .before .loop .a in
+    subst (Priceable (now (s .args .file)) (now (s .args .sizes)) (getD (now (s .args .action-at)) a 0)) (sym (own-nodes (now (s .args .node-at)) (getD (now (s .args .first-node)) a 0) (c .before .before .before .offset-within .ensures))) (s .pre a (omega arith))
 
--- src/rounds.rt:54:9
-add-a : tie.Need-add-a Inv-loop μ-loop
-add-a c = ?
-
--- src/rounds.rt:54:5
-loop-less : tie.Need-loop-less Inv-loop μ-loop
-loop-less c = ?
-
--- src/rounds.rt:54:5
 loop-again : tie.Need-loop-again Inv-loop μ-loop
-loop-again c = ?
+loop-again c =
+    let s = c .before .before .before .before .before .before .before .before .before .before .before .before .before .before .before .before .args in
+    let l = c .before .before .before .before .before .before .before .before .loop in
+    let same = c .before .new .given in (
+      omega arith,
+      same ∙ l .inv .1,
+      actions-more (now (s .file)) (now (s .sizes)) (now (s .action-at)) (now (s .first-node)) (now (s .node-at)) (rankNumber (now (s .old))) (l .a) _ (l .inv .2) (omega arith) same
+      (own-nodes (now (s .node-at)) (getD (now (s .first-node)) (l .a) 0) (c .before .before .before .before .before .before .offset-within .ensures)) (c .before .before .offer-action .ensures),
+    )
 
--- src/rounds.rt:42:1
-same-length : tie.Need-same-length Inv-loop μ-loop
-same-length c = ?
-
--- src/rounds.rt:42:1
 returns : tie.Need-returns Inv-loop μ-loop
-returns c = ?
+returns c =
+    let s = c .before .before .before .before .before .before .before .before .before .args in
+    let l = c .before .loop in
+    actions-all (now (s .file)) (now (s .sizes)) (now (s .action-at)) (now (s .first-node)) (now (s .node-at)) (rankNumber (now (s .old))) (l .a) _ (l .inv .2) (omega arith)
 
 pub offer-actions-spec : {M : Type 1} → statement M
 offer-actions-spec =
@@ -73,17 +51,17 @@ offer-actions-spec =
     (tie.spec
     Inv-loop
     μ-loop
-    loop-holds
-    offset-within-requires
-    mul-offer-action
-    shared-slice-read-offer-action
-    mul-offer-action-2
-    sub-offer-action
-    part-offer-action-start
-    part-offer-action-end
+    (λ c. let s = c .before .before .before .before .before .before .before .args in (omega arith, refl, actions-none (now (s .file)) (now (s .sizes)) (now (s .action-at)) (now (s .first-node)) (now (s .node-at)) (rankNumber (now (s .old))) (now (s .new))))
+    (λ c κs. search needs)
+    (λ c. search needs)
+    (λ c. omega arith)
+    (λ c. search needs)
+    (λ c. omega (arith, c .before .offset-within .ensures))
+    (λ c. omega (arith, c .before .offset-within .ensures))
+    (λ c. search needs)
     offer-action-requires
-    add-a
-    loop-less
+    (λ c. omega arith)
+    (λ c. omega arith)
     loop-again
-    same-length
+    (λ c. c .before .loop .inv .1)
     returns)
