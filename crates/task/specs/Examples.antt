@@ -1,10 +1,17 @@
--- Document 01's known cases of relaxed costs, computed from the bytes of files: "Known cases", "Turned down".
+-- Document 01's known cases of relaxed costs and estimates, computed from the bytes of files: "Known cases", "Turned down".
 use mathlib.Core.Path.{_≡_, refl}
-use mathlib.Core.List.{[], _∷_}
+use Prim.Native.Nat.{ℕ}
+use mathlib.Core.List.{List, [], _∷_, _++_}
+use lib.ListN.{replicate}
 use Rattle.facts.specs.Read.{accepted, refused}
+use Rattle.estimate.specs.Number.{exact, never}
+use Rattle.estimate.specs.Rounds.{settled}
+use Rattle.estimate.specs.Additive.{additiveRound, lastNumbers, additive, estimateFile}
 use Rattle.taskfile.specs.Examples.{xy²+z+2-bytes, P-bytes, answering}
 use Rattle.relaxation.specs.Relaxed.{relaxedCost}
+use Rattle.relaxation.specs.Estimate.{leastCost}
 use Rattle.task.specs.RelaxedTask.{checkRelaxed, relaxedTask}
+use Rattle.task.specs.EstimateTask.{estimateTask}
 
 -- what an example opens
 relaxing : Unit {0}
@@ -54,3 +61,61 @@ stray-bit = refl
 stray-beside : relaxedTask xy²+z+2-bytes 0 (3 ∷ 9 ∷ 1 ∷ []) ≡ refused 4 1
 unfolding relaxing
 stray-beside = refl
+
+-- ---- A and B, variables 0 and 1, at 0; the goal is that one of them, by its bit, is 1
+
+-- what an estimate opens
+estimating : Unit {0}
+unfolding answering settled additiveRound lastNumbers additive estimateFile leastCost
+estimating = tt
+
+-- a partial state with no facts, and one that has the variable with this bit at 1
+abbrev none : List ℕ
+none = replicate 8 0
+
+abbrev at-1 : ℕ → List ℕ
+at-1 bit = bit ∷ replicate 7 0 ++ 1 ∷ []
+
+-- sets A=1 at 2-2B
+abbrev set-A : List ℕ
+set-A = none ++ at-1 1 ++ 0 ∷ 0 ∷ 1 ∷ 1 ∷ 2 ∷ 2 ∷ 0 ∷ 2 ∷ 0 ∷ 0 ∷ []
+
+-- sets B=1 at 1
+abbrev set-B : List ℕ
+set-B = none ++ at-1 2 ++ 1 ∷ 0 ∷ 0 ∷ []
+
+-- the file with this goal and these actions, as many as `count` says
+abbrev A-and-B : ℕ → ℕ → List ℕ → List ℕ
+A-and-B goal count actions = 2 ∷ 2 ∷ 2 ∷ 0 ∷ 0 ∷ at-1 goal ++ count ∷ actions
+
+pub estimate-1 : estimateTask (A-and-B 1 2 (set-A ++ set-B)) (0 ∷ 0 ∷ []) ≡ accepted (exact 1)
+unfolding estimating
+estimate-1 = refl
+
+-- without the second action
+pub estimate-2 : estimateTask (A-and-B 1 1 set-A) (0 ∷ 0 ∷ []) ≡ accepted (exact 2)
+unfolding estimating
+estimate-2 = refl
+
+-- goal B=1 without it
+pub estimate-never : estimateTask (A-and-B 2 1 set-A) (0 ∷ 0 ∷ []) ≡ accepted never
+unfolding estimating
+estimate-never = refl
+
+-- from another state than the initial one
+estimate-0 : estimateTask (A-and-B 1 2 (set-A ++ set-B)) (0 ∷ 1 ∷ []) ≡ accepted (exact 0)
+unfolding estimating
+estimate-0 = refl
+
+-- the file, the length, then the lowest variable
+estimate-no-task : estimateTask [] [] ≡ refused 1 0
+unfolding estimating
+estimate-no-task = refl
+
+estimate-short : estimateTask (A-and-B 1 1 set-A) (2 ∷ []) ≡ refused 12 0
+unfolding estimating
+estimate-short = refl
+
+estimate-outside : estimateTask (A-and-B 1 1 set-A) (0 ∷ 2 ∷ []) ≡ refused 4 1
+unfolding estimating
+estimate-outside = refl
