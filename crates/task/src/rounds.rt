@@ -58,14 +58,7 @@ fn offer_actions(
 }
 
 // The same for the action at an offset, whose own nodes begin at the offsets `nodes`.
-fn offer_action(
-    file: &[u8],
-    sizes: &[u8],
-    at: usize,
-    nodes: &[usize],
-    old: &[u64],
-    new: &mut [u64],
-)
+fn offer_action(file: &[u8], sizes: &[u8], at: usize, nodes: &[usize], old: &[u64], new: &mut [u64])
     requires { ⌜ Priceable (now file) (now sizes) at (now nodes) ⌝ }
     ensures { λ r. ⌜ HasRanks (now (new .exit)) (afterOffer (offerOf (length (now (sizes .entry))) (rankNumber (now (old .entry))) (achieverIn (now (file .entry)) (now (sizes .entry)) at (now (nodes .entry)))) (rankNumber (now (new .entry)))) ⌝ }
 {

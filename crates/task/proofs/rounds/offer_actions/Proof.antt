@@ -36,7 +36,7 @@ loop-again c =
       omega arith,
       same ∙ l .inv .1,
       actions-more (now (s .file)) (now (s .sizes)) (now (s .action-at)) (now (s .first-node)) (now (s .node-at)) (rankNumber (now (s .old))) (l .a) _ (l .inv .2) (omega arith) same
-      (own-nodes (now (s .node-at)) (getD (now (s .first-node)) (l .a) 0) (c .before .before .before .before .before .before .offset-within .ensures)) (c .before .before .offer-action .ensures),
+          (own-nodes (now (s .node-at)) (getD (now (s .first-node)) (l .a) 0) (c .before .before .before .before .before .before .offset-within .ensures)) (c .before .before .offer-action .ensures),
     )
 
 returns : tie.Need-returns Inv-loop μ-loop
