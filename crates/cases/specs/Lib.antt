@@ -1,0 +1,20 @@
+-- What a reader looks at in a file, and where.
+pub mod Sites
+pub mod TaskSites
+-- Rows 1 to 6, of files.
+pub mod SiteLaws
+pub mod RisingLaws
+pub mod TaskSiteLaws
+pub mod FileRows
+-- Rows 4 and 7 to 12, of lists, states and buffers.
+pub mod ListRows
+pub mod StartRows
+pub mod OperationRows
+pub mod StateRows
+-- Which numbers are given at all.
+pub mod Numbers
+-- The table: read this first.
+pub mod Table
+-- The document's cases, computed: the marked ones, and the table's examples.
+pub mod Marked
+pub mod TableExamples
