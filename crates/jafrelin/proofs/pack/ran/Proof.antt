@@ -1,0 +1,16 @@
+-- `jafrelin::pack::ran` meets its contract: each case is packed as its meaning is. Assumes nothing.
+use mathlib.Core.Path.{sym, ap, _∙_}
+use Rattle.facts.specs.Answers.{ranAnswer}
+use Rattle.jafrelin.specs.Packing.{packedSum}
+use borrow.Author.Needs.{needs}
+use Rattle.jafrelin.proofs.pack.ran.Statement.{statement}
+use Rattle.jafrelin.proofs.pack.ran.Tie as tie
+
+returns : tie.Need-returns
+returns c = c .pack .ensures ∙ ap (λ a. packedSum (ranAnswer a)) (sym (c .before .before .answer .given .1))
+
+returns-2 : tie.Need-returns-2
+returns-2 c = c .refusal .ensures ∙ ap (λ a. packedSum (ranAnswer a)) (sym (c .before .before .answer2 .given .1))
+
+pub ran-spec : {M : Type 1} → statement M
+ran-spec = tie.close (tie.spec (λ c. search needs) (λ c. search needs) (λ c κs. search needs) (λ c. search needs) (λ c κs. search needs) returns returns-2)

@@ -1,0 +1,233 @@
+//! Times each operation of the library against the second implementation on the same inputs; the command line names more task files.
+
+use second::call::{self, Call, Operation};
+use second::generate::{self, goal_in, walk, Random, Shape};
+use second::library::library;
+use second::model::{holds, TaskModel};
+use second::parts::{Probe, Task};
+use second::special::{self, task_p};
+use std::hint::black_box;
+use std::time::Instant;
+use std::{env, fs};
+
+/// How many samples a median is taken of, and how long a sample is to last, in nanoseconds.
+const SAMPLES: usize = 61;
+const SAMPLE_TIME: f64 = 30_000.0;
+
+/// A task file, what it is called in the table, and a list of actions.
+struct Input {
+    name: String,
+    file: Vec<u8>,
+    list: Vec<u16>,
+}
+
+/// Prints the tables.
+fn main() {
+    print_header("every operation");
+    let mut inputs = vec![Input::new("P".to_string(), task_p().bytes())];
+    for path in env::args().skip(1) {
+        let file = fs::read(&path).expect("a task file");
+        inputs.push(Input::new(path, file));
+    }
+    inputs.push(Input::generated("typical, generated", generate::TYPICAL, 40));
+    inputs.push(Input::generated("every limit, generated", generate::LIMITS, 256));
+    inputs.push(Input {
+        name: "the longest task".to_string(),
+        file: special::longest_task().bytes(),
+        list: (0..8).collect::<Vec<u16>>().repeat(32),
+    });
+    inputs.push(Input {
+        name: "the longest path".to_string(),
+        file: special::long_path(8).bytes(),
+        list: vec![0; Task::LIST],
+    });
+    for input in &inputs {
+        every_operation(input);
+    }
+    longest_probe();
+    growth();
+}
+
+impl Input {
+    /// A task file with a plan for it, found by random walks.
+    fn new(name: String, file: Vec<u8>) -> Input {
+        let task = TaskModel::of(&Task::read(&file).expect("an accepted task"));
+        let plan = (0..100_000).find_map(|seed| {
+            let random = &mut Random::new(seed);
+            let length = seed as usize / 2_000;
+            let (list, end) = walk(random, &task.initial, &task.operators(), length);
+            holds(&task.goal, &end).then_some(list)
+        });
+        let list = plan.unwrap_or_default();
+        Input { name, file, list }
+    }
+
+    /// A generated task with a plan of so many actions.
+    fn generated(name: &str, shape: Shape, length: usize) -> Input {
+        let random = &mut Random::new(7);
+        let mut task = generate::task(random, shape);
+        task.actions[0].precondition.clear();
+        let (list, end) = walk(random, &task.initial, &task.operators(), length);
+        task.goal = goal_in(random, &end);
+        Input { name: name.to_string(), file: task.bytes(), list }
+    }
+}
+
+/// Prints the head of a table.
+fn print_header(title: &str) {
+    println!("\n{title}");
+    println!("{:<15}{:<44}{:>12}{:>12}{:>8}", "operation", "input", "ns library", "ns Rust", "ratio");
+}
+
+/// Times a call and prints its row.
+fn row(call: &Call, input: &str) {
+    let mut library_out = (vec![0; Task::COMPILED_BYTES], vec![0; Probe::LIST]);
+    let mut second_out = library_out.clone();
+    let [first, other] =
+        medians([&mut || library(black_box(call), &mut library_out.0, &mut library_out.1), &mut || {
+            call::second(black_box(call), &mut second_out.0, &mut second_out.1)
+        }]);
+    let operation = format!("{:?}", call.operation);
+    let ratio = first / other;
+    println!("{operation:<15}{input:<44}{first:>12.0}{other:>12.0}{ratio:>8.2}");
+}
+
+/// The median time of each piece of work, in nanoseconds; samples of the two take turns.
+fn medians(works: [&mut dyn FnMut() -> u64; 2]) -> [f64; 2] {
+    let counts = [calibrated(works[0]), calibrated(works[1])];
+    let mut samples = [Vec::new(), Vec::new()];
+    for _ in 0..SAMPLES {
+        for side in 0..2 {
+            samples[side].push(sample(works[side], counts[side]));
+        }
+    }
+    samples.map(|mut times| {
+        times.sort_by(f64::total_cmp);
+        times[SAMPLES / 2]
+    })
+}
+
+/// How often a piece of work is done in a sample; finding this out warms up.
+fn calibrated(work: &mut dyn FnMut() -> u64) -> usize {
+    let mut count = 1;
+    while sample(work, count) * (count as f64) < SAMPLE_TIME {
+        count *= 2;
+    }
+    count
+}
+
+/// The time of a piece of work, in nanoseconds, done so often in a row.
+fn sample(work: &mut dyn FnMut() -> u64, count: usize) -> f64 {
+    let start = Instant::now();
+    for _ in 0..count {
+        black_box(work());
+    }
+    start.elapsed().as_nanos() as f64 / count as f64
+}
+
+/// Times every operation on a task, its compiled file and the lists of a plan.
+fn every_operation(input: &Input) {
+    let Input { name, file, list } = input;
+    let mut probe = vec![0; Task::COMPILED_BYTES];
+    let length = second::compile(file, &mut probe).expect("an accepted task");
+    probe.truncate(length);
+    let mut steps = vec![0; Probe::LIST];
+    let (length, _) = second::expand(file, list, &mut steps).expect("a plan");
+    steps.truncate(length);
+    let state = &file[1 + usize::from(file[0])..][..usize::from(file[0])];
+    let sets: Vec<u8> = file[1..=state.len()].iter().map(|&size| u8::MAX >> (8 - size)).collect();
+    let mut probe_state = state.to_vec();
+    probe_state.resize(usize::from(probe[0]), 0);
+    let calls = [
+        Call::on(Operation::CheckTask, file),
+        Call::on(Operation::Cost, file).state(state),
+        Call::on(Operation::RelaxedCost, file).state(&sets),
+        Call::on(Operation::RunTask, file).list(list),
+        Call::on(Operation::EstimateTask, file).state(state),
+        Call::on(Operation::Compile, file),
+        Call::on(Operation::Expand, file).list(list),
+        Call::on(Operation::Contract, file).list(&steps),
+        Call::on(Operation::CheckProbe, &probe),
+        Call::on(Operation::RunProbe, &probe).list(&steps),
+        Call::on(Operation::EstimateProbe, &probe).state(&probe_state),
+    ];
+    for call in &calls {
+        row(call, &described(name, call));
+        if call.operation == Operation::Compile {
+            copy_row(&probe);
+        }
+    }
+}
+
+/// An input's name with the lengths that matter.
+fn described(name: &str, call: &Call) -> String {
+    match call.list.len() {
+        0 => format!("{name}: {} bytes", call.file.len()),
+        entries => format!("{name}: {} bytes, {entries} entries", call.file.len()),
+    }
+}
+
+/// Times the mere copying of a file that was written, and prints its row.
+fn copy_row(written: &[u8]) {
+    let mut out = written.to_vec();
+    let mut copy = || {
+        black_box(&mut out[..]).copy_from_slice(black_box(written));
+        0
+    };
+    let count = calibrated(&mut copy);
+    let mut times: Vec<_> = (0..SAMPLES).map(|_| sample(&mut copy, count)).collect();
+    times.sort_by(f64::total_cmp);
+    let input = format!("the {} bytes written, copied", written.len());
+    println!("{:<15}{input:<44}{:>12}{:>12.0}", "", "", times[SAMPLES / 2]);
+}
+
+/// Times the operations on the longest probe file.
+fn longest_probe() {
+    let probe = special::longest_probe();
+    let file = probe.bytes();
+    let list: Vec<u16> = (0..66).collect();
+    let calls = [
+        Call::on(Operation::CheckProbe, &file),
+        Call::on(Operation::RunProbe, &file).list(&list),
+        Call::on(Operation::EstimateProbe, &file).state(&probe.initial),
+    ];
+    for call in &calls {
+        row(call, &described("the longest probe file", call));
+    }
+}
+
+/// Times how the cost grows with actions, with nodes and with the length of a list.
+fn growth() {
+    print_header("growth with actions (8 variables of 4 values, no nodes)");
+    for actions in [1, 2, 4, 8, 16, 32] {
+        grow(&format!("{actions} actions"), actions, 0);
+    }
+    print_header("growth with nodes (8 variables of 4 values, 8 actions)");
+    for nodes in [0, 4, 8, 16, 32, 64] {
+        grow(&format!("{nodes} nodes"), 8, nodes);
+    }
+    print_header("growth with the list's length (the longest path)");
+    let file = special::long_path(8).bytes();
+    for length in [0, 1, 4, 16, 64, 256] {
+        let name = format!("{length} actions");
+        let list = vec![0; length];
+        let mut steps = vec![0; Probe::LIST];
+        let expanded = Call::on(Operation::Expand, &file).list(&list);
+        let answer = call::second(&expanded, &mut [], &mut steps);
+        steps.truncate(call::length(answer));
+        row(&Call::on(Operation::RunTask, &file).list(&list), &name);
+        row(&expanded, &name);
+        row(&Call::on(Operation::Contract, &file).list(&steps), &name);
+    }
+}
+
+/// Times the operations on a generated task with so many actions and nodes.
+fn grow(name: &str, actions: usize, nodes: usize) {
+    let shape = Shape { variables: (8, 8), values: (4, 4), actions: (actions, actions), nodes: (nodes, nodes) };
+    let task = TaskModel { goal: Vec::new(), ..generate::task(&mut Random::new(3), shape) };
+    let file = task.bytes();
+    row(&Call::on(Operation::CheckTask, &file), name);
+    row(&Call::on(Operation::Compile, &file), name);
+    let state = &task.initial;
+    row(&Call::on(Operation::EstimateTask, &file).state(state), name);
+}

@@ -1,0 +1,26 @@
+//! A second implementation of document 01 in plain Rust, written from the document alone, to compare the proved library with and to measure it by.
+//!
+//! `parts`, `reading`, `running`, `writing`, `plans` and `heuristic` are the operations. `call` has them as values, for comparing and timing; `model`,
+//! `definition`, `generate` and `special` serve the tests.
+
+pub mod call;
+pub mod definition;
+pub mod generate;
+pub mod heuristic;
+#[cfg(feature = "library")]
+pub mod library;
+pub mod model;
+pub mod parts;
+pub mod plans;
+pub mod reading;
+pub mod refusal;
+pub mod running;
+pub mod special;
+pub mod writing;
+
+pub use heuristic::{estimate_probe, estimate_task, relaxed_cost, Estimate};
+pub use plans::{contract, expand};
+pub use reading::{check_probe, check_task};
+pub use refusal::{Answer, Reason, Refusal};
+pub use running::{cost, run_probe, run_task};
+pub use writing::compile;

@@ -1,0 +1,99 @@
+//! Tasks and probe files that are made for one purpose: the document's own, the longest, and those whose estimates are near the limit.
+
+use crate::model::{ActionModel, Facts, NodeModel, ProbeModel, StepModel, TaskModel};
+use crate::parts::{Probe, Task};
+
+/// Document 01's task P: one variable, one action whose cost the variable decides.
+pub fn task_p() -> TaskModel {
+    TaskModel {
+        sizes: vec![2],
+        initial: vec![0],
+        goal: vec![(0, 1)],
+        actions: vec![ActionModel {
+            precondition: Facts::new(),
+            effect: vec![(0, 1)],
+            incoming: 3,
+            nodes: vec![NodeModel { variable: 0, edges: vec![(2, 5), (2, 0)] }],
+        }],
+    }
+}
+
+/// Every variable of a state of `count` variables at a value.
+pub fn all(count: u8, value: u8) -> Facts {
+    (0..count).map(|variable| (variable, value)).collect()
+}
+
+/// The longest task, of 3,826 bytes: every count at its limit, every domain of 8 values, every partial state full; its probe file has 13,846 bytes.
+pub fn longest_task() -> TaskModel {
+    let node = |variable, target| NodeModel {
+        variable,
+        edges: (0..u16::from(Task::VALUES)).map(|value| (target, value)).collect(),
+    };
+    let action = |number: u8| ActionModel {
+        precondition: all(Task::VARIABLES, number % Task::VALUES),
+        effect: all(Task::VARIABLES, (number + 1) % Task::VALUES),
+        incoming: u16::from(number),
+        nodes: vec![node(number % 12, 2), node(12 + number % 12, 3)],
+    };
+    TaskModel {
+        sizes: vec![Task::VALUES; usize::from(Task::VARIABLES)],
+        initial: vec![0; usize::from(Task::VARIABLES)],
+        goal: all(Task::VARIABLES, 0),
+        actions: (0..Task::ACTIONS).map(action).collect(),
+    }
+}
+
+/// The longest probe file, of 76,214 bytes: every count at its limit and every partial state full.
+pub fn longest_probe() -> ProbeModel {
+    let step = |number: u16| StepModel {
+        precondition: all(Probe::VARIABLES, (number % u16::from(Probe::VALUES)) as u8),
+        effect: all(Probe::VARIABLES, ((number + 1) % u16::from(Probe::VALUES)) as u8),
+        cost: 65_535 - number,
+    };
+    ProbeModel {
+        sizes: vec![Probe::VALUES; usize::from(Probe::VARIABLES)],
+        initial: vec![0; usize::from(Probe::VARIABLES)],
+        goal: all(Probe::VARIABLES, 0),
+        steps: (0..Probe::STEPS).map(step).collect(),
+    }
+}
+
+/// One action that passes a node for each of 24 variables: 26 steps, and 256 of it make the longest probe list of a source plan.
+pub fn long_path(values: u8) -> TaskModel {
+    let node = |variable| NodeModel { variable, edges: (0..values).map(|_| (variable + 2, 65_535)).collect() };
+    TaskModel {
+        sizes: vec![values; usize::from(Task::VARIABLES)],
+        initial: vec![0; usize::from(Task::VARIABLES)],
+        goal: Facts::new(),
+        actions: vec![ActionModel {
+            incoming: 65_535,
+            effect: vec![(0, 1)],
+            nodes: (0..Task::VARIABLES).map(node).collect(),
+            ..ActionModel::default()
+        }],
+    }
+}
+
+/// Levels of facts, two a level, each action from one level to the next: the numbers are 65,535 and then twice the last and `added`.
+pub fn doubling(levels: u8, added: u16) -> TaskModel {
+    let level = |number: u8| {
+        let (pair, value) = ((number - 1) / 7, (number - 1) % 7 + 1);
+        vec![(2 * pair, value), (2 * pair + 1, value)]
+    };
+    let action = |number| ActionModel {
+        precondition: if number == 1 { Facts::new() } else { level(number - 1) },
+        effect: level(number),
+        incoming: match number {
+            1 => 65_535,
+            _ if number == levels => added,
+            _ => 1,
+        },
+        nodes: Vec::new(),
+    };
+    TaskModel {
+        sizes: vec![8; 6],
+        initial: vec![0; 6],
+        goal: vec![level(levels)[0]],
+        actions: (1..=levels).map(action).collect(),
+    }
+}
