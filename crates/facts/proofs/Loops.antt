@@ -172,7 +172,7 @@ module _ (f s : List ℕ) {m z a : ℕ} (e : Lowest m z a) (at : ℕ) where
       let x = getD f at 0 in
       let left = ap (λ (k : ℕ). apply (standingAt f k (at + 1)) (set s z x)) (cleared e) ∙ apply-shift f (at + 1) (set s z x) a (suc z) in
       let same : take (suc z) (set s z x) ++ apply (standingAt f a (at + 1)) (drop (suc z) (set s z x)) ≡ take z s ++ (x ∷ apply (standingAt f a (at + 1)) (drop (suc z) s)) =
-          rw (take-suc-set s z x l, drop-set-lt (suc z) s z x (omega arith), append-snoc) in
+      rw (take-suc-set s z x l, drop-set-lt (suc z) s z x (omega arith), append-snoc) in
       apply-skip ∙ (rw (drop-cons s z 0 l, apply-odd f a at h (getD s z 0) (drop (suc z) s))) ∙ sym (left ∙ same)
 
 -- where the values end the partial state ends

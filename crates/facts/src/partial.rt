@@ -107,7 +107,10 @@ pub fn lowest_bit(map: u64) -> Bit
     ensures { λ r. ⌜ LowestBit map (r .zeros) (r .above) ⌝ }
 {
     if map == 0 {
-        return Bit { zeros: 64, above: 0 };
+        return Bit {
+            zeros: 64,
+            above: 0,
+        };
     }
     let zeros = u64::trailing_zeros(map);
     Bit {

@@ -104,13 +104,7 @@ fn relaxed_in(file: &[u8], task: Task, action: usize, sets: &[u8]) -> Costed
             let firsts = task.firsts;
             let nodes = task.nodes;
             let first = offset_within(&firsts, action, Task::MAX_NODES);
-            Costed::Cost(relaxed::relaxed_at(
-                file,
-                sizes,
-                starts[action],
-                &nodes[first..],
-                sets,
-            ))
+            Costed::Cost(relaxed::relaxed_at(file, sizes, starts[action], &nodes[first..], sets))
         }
     }
 }

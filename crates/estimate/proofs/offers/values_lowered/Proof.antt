@@ -41,8 +41,7 @@ values-lowered-spec =
     (λ c.
     let call = c .before .before in
     let turn = call .before .before in
-    let l = turn .before .before .before .before .before .before .loop in
-    (
+    let l = turn .before .before .before .before .before .before .loop in (
       omega arith,
       c .before .ranks .given ∙ l .inv .1,
       offering-more (l .inv .2) (turn .before .before .before .before .lowest-bit .ensures .stands (omega arith)) (turn .before .if2 .left) (c .before .ranks .given) (call .lower-fact .ensures),

@@ -26,8 +26,8 @@ loop-holds c =
     let set = c .byte-at3 .ensures in (
       omega arith,
       choosing-start (omega arith)
-      (set-read (now (a .file)) (now (a .sizes)) (now (a .sets)) (now (a .least)) (a .node) (s .pre .0) (s .pre .1) v n set)
-      (size-read (now (a .file)) (now (a .sizes)) (now (a .sets)) (now (a .least)) (a .node) (s .pre .0) (s .pre .1) v n set),
+          (set-read (now (a .file)) (now (a .sizes)) (now (a .sets)) (now (a .least)) (a .node) (s .pre .0) (s .pre .1) v n set)
+          (size-read (now (a .file)) (now (a .sizes)) (now (a .sets)) (now (a .least)) (a .node) (s .pre .0) (s .pre .1) v n set),
     )
 
 loop-again : tie.Need-loop-again Inv-loop μ-loop
