@@ -1,6 +1,6 @@
 -- Laws of the loops over the standing bits of a map: one for each way in which a turn can go. What is left of the map is m, from variable v
 -- on; its lowest standing bit is z variables further, and `above` is left above it.
-use mathlib.Core.Path.{_≡_, refl, ap, ap₂, _∙_}
+use mathlib.Core.Path.{_≡_, refl, sym, ap, ap₂, _∙_}
 use Prim.Native.Nat.{ℕ, zero, suc, _+_, _-_, _*_, _/_, _%_, _^_, _≤_, _<_}
 use native.Mathlib.Nat.{zero-add}
 use native.Mathlib.Numerals.{add-one}
@@ -9,11 +9,14 @@ use mathlib.Core.Bool.{Bool, true, false, _&&_}
 use mathlib.Core.List.{List, [], _∷_, _++_, append-nil, append-assoc}
 use lib.Bits.{bitAnd}
 use lib.Dec.{eqb}
-use lib.ListN.{length, getD, set, take, drop, drop-of-length-le, take-append-drop}
+use lib.ListN.{length, getD, set, take, drop, drop-of-length-le}
 use lib.Seq.{drop-cons, drop-drop, take-add, take-suc-set, drop-set-lt, append-snoc, take-all}
 use borrow.Author.Tests.{eq-eqb, ne-eqb}
 use Rattle.facts.specs.Read.{Read, accepted, refused, _>>=_}
-use Rattle.facts.specs.Partial.{Partial, agrees, after, rest, above, holds, apply, standingAt}
+use Rattle.facts.specs.declared.Held.{Held}
+use Rattle.facts.specs.declared.Held.the-variants.{Ends, Not}
+use Rattle.facts.specs.Answers.{EndsAt, EndsAlike}
+use Rattle.facts.specs.Partial.{Partial, equal, agrees, after, rest, above, holds, apply, standingAt}
 use Rattle.facts.specs.Bits.{Lowest}
 use Rattle.facts.specs.BitsLaws.{even-bit, even-half, odd-bit, odd-half, skip, first-even, first-odd, first-cut, above-even, above-odd, no-bits, cut-values}
 use Rattle.facts.specs.PartialLaws.{holds-empty, apply-empty}
@@ -44,7 +47,7 @@ module _ (sizes : List ℕ) {m z a : ℕ} (e : Lowest m z a) where
   standing-skip = rw (e .bits) (standing-shift sizes (2 * a + 1) z)
 
   standing-cleared : standing (bitAnd m (m - 1)) sizes ≡ standing a (drop (suc z) sizes)
-  standing-cleared = ap (λ (k : ℕ). standing k sizes) (cleared e) ∙ standing-shift sizes (2 * a) z ∙ standing-even a (drop z sizes) ∙ rw (drop-one z sizes)
+  standing-cleared = ap (λ (k : ℕ). standing k sizes) (cleared e) ∙ standing-shift sizes a (suc z)
 
   standing-next : z < length sizes → standing m sizes ≡ getD sizes z 0 ∷ standing (bitAnd m (m - 1)) sizes
   standing-next l = standing-skip ∙ rw (drop-cons sizes z 0 l, standing-cleared) (standing-odd a (getD sizes z 0) (drop (suc z) sizes))
@@ -111,50 +114,68 @@ no-bytes m (x ∷ xs) = ap₂ (λ (y : ℕ) (ys : List ℕ). y ∷ ys) (one (m %
     none zero = refl
     none (suc b) = refl
 
-apply-cut : (f : List ℕ) (m at : ℕ) (xs : List ℕ) → length f ≤ at → apply (standingAt f m at) xs ≡ xs
+pub apply-cut : (f : List ℕ) (m at : ℕ) (xs : List ℕ) → length f ≤ at → apply (standingAt f m at) xs ≡ xs
 unfolding standingAt
 apply-cut f m at xs l = rw (cut-values f m at l) (no-bytes m xs)
 
 pub holds-done : (f : List ℕ) (at : ℕ) (xs : List ℕ) {m : ℕ} → m ≡ 0 → holds (standingAt f m at) xs ≡ true
 holds-done f at xs e = rw (e, no-bits f at) (holds-empty xs)
 
-pub apply-done : (f : List ℕ) (at v : ℕ) (s : List ℕ) {m : ℕ} → m ≡ 0 → take v s ++ apply (standingAt f m at) (drop v s) ≡ s
-apply-done f at v s e = rw (e, no-bits f at, apply-empty (drop v s)) (take-append-drop v s)
+pub apply-done : (f : List ℕ) (at : ℕ) (s : List ℕ) {m : ℕ} → m ≡ 0 → apply (standingAt f m at) s ≡ s
+apply-done f at s e = rw (e, no-bits f at) (apply-empty s)
 
-module _ (f s : List ℕ) (v : ℕ) {m z a : ℕ} (e : Lowest m z a) (at : ℕ) where
-  holds-skip : holds (standingAt f m at) (drop v s) ≡ holds (standingAt f (2 * a + 1) at) (drop (v + z) s)
-  holds-skip = rw (e .bits) (skip (λ m v. holds (standingAt f m at) (drop v s)) (λ m v. holds-even f m at (drop v s) ∙ rw (drop-one v s)) z (2 * a + 1) v)
+-- the facts of a map that has z zeros at its lower end
+module _ (f : List ℕ) (at : ℕ) (s : List ℕ) (m z : ℕ) where
+  holds-shift : holds (standingAt f (m * 2 ^ z) at) s ≡ holds (standingAt f m at) (drop z s)
+  holds-shift =
+      skip (λ m v. holds (standingAt f m at) (drop v s)) (λ m v. holds-even f m at (drop v s) ∙ rw (drop-one v s)) z m 0
+      ∙ ap (λ (k : ℕ). holds (standingAt f m at) (drop k s)) (zero-add z)
 
-  pub holds-over : length s ≤ v + z → holds (standingAt f m at) (drop v s) ≡ true
-  holds-over l = holds-skip ∙ rw (drop-of-length-le s l)
-
-  pub holds-short : v + z < length s → length f ≤ at → holds (standingAt f m at) (drop v s) ≡ false
-  holds-short l h = holds-skip ∙ rw (drop-cons s (v + z) 0 l) (holds-cut f a at h (getD s (v + z) 0) (drop (suc (v + z)) s))
-
-  holds-turn : v + z < length s → at < length f → holds (standingAt f m at) (drop v s) ≡ (eqb (getD f at 0) (getD s (v + z) 0) && holds (standingAt f a (at + 1)) (drop (v + z + 1) s))
-  holds-turn l h = holds-skip ∙ rw (drop-cons s (v + z) 0 l, add-one (v + z)) (holds-odd f a at h (getD s (v + z) 0) (drop (suc (v + z)) s))
-
-  pub holds-not : v + z < length s → at < length f → (getD f at 0 ≡ getD s (v + z) 0 → ⊥) → holds (standingAt f m at) (drop v s) ≡ false
-  holds-not l h n = holds-turn l h ∙ rw (ne-eqb (getD f at 0) (getD s (v + z) 0) n)
-
-  pub holds-next : v + z < length s → at < length f → getD f at 0 ≡ getD s (v + z) 0 → holds (standingAt f m at) (drop v s) ≡ holds (standingAt f a (at + 1)) (drop (v + z + 1) s)
-  holds-next l h n = holds-turn l h ∙ rw (eq-eqb (getD f at 0) (getD s (v + z) 0) n)
-
-  apply-skip : take v s ++ apply (standingAt f m at) (drop v s) ≡ take (v + z) s ++ apply (standingAt f (2 * a + 1) at) (drop (v + z) s)
-  apply-skip = rw (e .bits) (skip (λ m v. take v s ++ apply (standingAt f m at) (drop v s)) one z (2 * a + 1) v)
+  apply-shift : apply (standingAt f (m * 2 ^ z) at) s ≡ take z s ++ apply (standingAt f m at) (drop z s)
+  apply-shift =
+      skip (λ m v. take v s ++ apply (standingAt f m at) (drop v s)) one z m 0
+      ∙ ap (λ (k : ℕ). take k s ++ apply (standingAt f m at) (drop k s)) (zero-add z)
     where
       one : (m v : ℕ) → take v s ++ apply (standingAt f (2 * m) at) (drop v s) ≡ take (suc v) s ++ apply (standingAt f m at) (drop (suc v) s)
       one m v = rw (apply-even f m at (drop v s), ← append-assoc (take v s) (take 1 (drop v s)), ← take-add v 1 s, add-one v, drop-one v s)
 
-  pub apply-over : length s ≤ v + z → take v s ++ apply (standingAt f m at) (drop v s) ≡ s
-  apply-over l = apply-skip ∙ rw (drop-of-length-le s l, take-all (v + z) s l, append-nil)
+module _ (f s : List ℕ) {m z a : ℕ} (e : Lowest m z a) (at : ℕ) where
+  holds-skip : holds (standingAt f m at) s ≡ holds (standingAt f (2 * a + 1) at) (drop z s)
+  holds-skip = rw (e .bits) (holds-shift f at s (2 * a + 1) z)
 
-  pub apply-short : length f ≤ at → take v s ++ apply (standingAt f m at) (drop v s) ≡ s
-  apply-short h = rw (apply-cut f m at (drop v s) h) (take-append-drop v s)
+  pub holds-over : length s ≤ z → holds (standingAt f m at) s ≡ true
+  holds-over l = holds-skip ∙ rw (drop-of-length-le s l)
 
-  pub apply-next : v + z < length s → at < length f
-      → take v s ++ apply (standingAt f m at) (drop v s)
-      ≡ take (v + z + 1) (set s (v + z) (getD f at 0)) ++ apply (standingAt f a (at + 1)) (drop (v + z + 1) (set s (v + z) (getD f at 0)))
+  pub holds-short : z < length s → length f ≤ at → holds (standingAt f m at) s ≡ false
+  holds-short l h = holds-skip ∙ rw (drop-cons s z 0 l) (holds-cut f a at h (getD s z 0) (drop (suc z) s))
+
+  holds-turn : z < length s → at < length f → holds (standingAt f m at) s ≡ (eqb (getD f at 0) (getD s z 0) && holds (standingAt f (bitAnd m (m - 1)) (at + 1)) s)
+  holds-turn l h =
+      holds-skip
+      ∙ (rw (drop-cons s z 0 l) (holds-odd f a at h (getD s z 0) (drop (suc z) s)))
+      ∙ ap (λ (b : Bool). eqb (getD f at 0) (getD s z 0) && b) (sym (ap (λ (k : ℕ). holds (standingAt f k (at + 1)) s) (cleared e) ∙ holds-shift f (at + 1) s a (suc z)))
+
+  pub holds-not : z < length s → at < length f → (getD f at 0 ≡ getD s z 0 → ⊥) → holds (standingAt f m at) s ≡ false
+  holds-not l h n = holds-turn l h ∙ rw (ne-eqb (getD f at 0) (getD s z 0) n)
+
+  pub holds-next : z < length s → at < length f → getD f at 0 ≡ getD s z 0 → holds (standingAt f m at) s ≡ holds (standingAt f (bitAnd m (m - 1)) (at + 1)) s
+  holds-next l h n = holds-turn l h ∙ rw (eq-eqb (getD f at 0) (getD s z 0) n)
+
+  apply-skip : apply (standingAt f m at) s ≡ take z s ++ apply (standingAt f (2 * a + 1) at) (drop z s)
+  apply-skip = rw (e .bits) (apply-shift f at s (2 * a + 1) z)
+
+  pub apply-over : length s ≤ z → apply (standingAt f m at) s ≡ s
+  apply-over l = apply-skip ∙ rw (drop-of-length-le s l, take-all z s l, append-nil)
+
+  pub apply-next : z < length s → at < length f → apply (standingAt f m at) s ≡ apply (standingAt f (bitAnd m (m - 1)) (at + 1)) (set s z (getD f at 0))
   apply-next l h =
-      apply-skip
-      ∙ rw (drop-cons s (v + z) 0 l, apply-odd f a at h (getD s (v + z) 0) (drop (suc (v + z)) s), add-one (v + z), take-suc-set s (v + z) (getD f at 0) l, drop-set-lt (suc (v + z)) s (v + z) (getD f at 0) (omega arith), append-snoc)
+      let x = getD f at 0 in
+      let left = ap (λ (k : ℕ). apply (standingAt f k (at + 1)) (set s z x)) (cleared e) ∙ apply-shift f (at + 1) (set s z x) a (suc z) in
+      let same : take (suc z) (set s z x) ++ apply (standingAt f a (at + 1)) (drop (suc z) (set s z x)) ≡ take z s ++ (x ∷ apply (standingAt f a (at + 1)) (drop (suc z) s)) =
+      rw (take-suc-set s z x l, drop-set-lt (suc z) s z x (omega arith), append-snoc) in
+      apply-skip ∙ (rw (drop-cons s z 0 l, apply-odd f a at h (getD s z 0) (drop (suc z) s))) ∙ sym (left ∙ same)
+
+-- where the values end the partial state ends
+pub ends-alike : (f : List ℕ) {end past : ℕ} → past ≡ end → (r : Held) → EndsAt end r → EndsAlike f past r
+ends-alike f e (Ends at) h = equal (h ∙ sym e)
+ends-alike f e Not h = tt

@@ -1,5 +1,7 @@
 -- What the answers of the code mean: the value, or the document's number and place of the refusal.
 use Prim.Native.Nat.{ℕ, _≤_}
+use mathlib.Core.Path.{_≡_}
+use mathlib.Core.Bool.{Bool, true, false}
 use mathlib.Core.List.{List}
 use Rattle.facts.specs.declared.Field.{Field}
 use Rattle.facts.specs.declared.Field.the-variants.{Value, Refused as NoValue}
@@ -13,8 +15,11 @@ use Rattle.facts.specs.declared.Ran.{Ran}
 use Rattle.facts.specs.declared.Ran.the-variants.{Sum, Refused as NotRan}
 use Rattle.facts.specs.declared.Applied.{Applied}
 use Rattle.facts.specs.declared.Applied.the-variants.{Next as Moved, Blocked}
+use Rattle.facts.specs.declared.Held.{Held}
+use Rattle.facts.specs.declared.Held.the-variants.{Ends, Not}
 use Rattle.facts.specs.Refusal.{number, place}
 use Rattle.facts.specs.Read.{Read, accepted, refused}
+use Rattle.facts.specs.Partial.{Alike}
 use Rattle.facts.specs.Run.{Move, next, blocked}
 
 -- a number that was read
@@ -51,3 +56,18 @@ appliedMove Blocked s = blocked
 abbrev pub CostMost : ℕ → Applied → Type 0
 CostMost most (Moved cost) = cost ≤ most
 CostMost most Blocked = Unit {0}
+
+-- whether a partial state holds
+abbrev pub heldAnswer : Held → Bool
+heldAnswer (Ends at) = true
+heldAnswer Not = false
+
+-- one that holds ends at `end`
+abbrev pub EndsAt : ℕ → Held → Type 0
+EndsAt end (Ends at) = at ≡ end
+EndsAt end Not = Unit {0}
+
+-- one that holds ends where the same stands as at `end`
+abbrev pub EndsAlike : List ℕ → ℕ → Held → Type 0
+EndsAlike f end (Ends at) = Alike f at end
+EndsAlike f end Not = Unit {0}

@@ -39,10 +39,10 @@ odd-bit m = omega arith
 pub odd-half : (m : ℕ) → (2 * m + 1) / 2 ≡ m
 odd-half m = omega arith
 
-ones-even : (m : ℕ) → ones (2 * m) ≡ ones m
+pub ones-even : (m : ℕ) → ones (2 * m) ≡ ones m
 ones-even m = ones-step (2 * m) ∙ ap₂ (λ (b h : ℕ). b + ones h) (even-bit m) (even-half m) ∙ omega arith
 
-ones-odd : (m : ℕ) → ones (2 * m + 1) ≡ suc (ones m)
+pub ones-odd : (m : ℕ) → ones (2 * m + 1) ≡ suc (ones m)
 ones-odd m = ones-step (2 * m + 1) ∙ ap₂ (λ (b h : ℕ). b + ones h) (odd-bit m) (odd-half m) ∙ omega arith
 
 -- ---- a partial state in place

@@ -6,14 +6,14 @@ use native.Mathlib.Omega.{arith}
 use mathlib.Core.Logic.{inl, inr}
 use mathlib.Core.List.{List}
 use lib.Count.{ones}
-use lib.ListN.{length, getD, set}
+use lib.ListN.{length, getD, set, List·getD-eq-default}
 use lib.Seq.{getD-set-same, getD-set-other}
 use Rattle.facts.specs.Read.{Read, accepted, refused}
 use Rattle.facts.specs.Bytes.{numberAt}
-use Rattle.facts.specs.Partial.{Partial, empty, partialBytes, standingAt, partialAt, pastPartial}
+use Rattle.facts.specs.Partial.{Partial, empty, partialBytes, standingAt, partialAt, pastPartial, Alike, equal, beyond}
 use Rattle.facts.specs.PartialLaws.{partial-here, partial-cut}
 use Rattle.facts.specs.Fields.{readNumber, wordAt}
-use Rattle.facts.specs.FieldLaws.{number-reads, number-read, number-short}
+use Rattle.facts.specs.FieldLaws.{number-reads, number-read, number-short, number-ends}
 
 module _ (f : List ℕ) (at : ℕ) where
   pub word-here : {n : ℕ} → readNumber f 2 at ≡ accepted n → wordAt f at ≡ n
@@ -45,9 +45,33 @@ module _ (f : List ℕ) (at : ℕ) where
   unfolding pastPartial
   past-is e = ap (λ (n : ℕ). at + n) e
 
+  pub past-here : {map : ℕ} → readNumber f 8 at ≡ accepted map → pastPartial f at ≡ at + 8 + ones map
+  unfolding pastPartial
+  past-here h = omega (arith, bytes-here h)
+
+  pub past-cut : {n p : ℕ} → readNumber f 8 at ≡ refused n p → pastPartial f at ≡ at + 8
+  unfolding pastPartial
+  past-cut h = omega (arith, bytes-cut h)
+
   pub past-read : {p : Partial} {e : ℕ} → p ≡ partialAt f at → e ≡ at + partialBytes p → pastPartial f at ≡ e
   unfolding pastPartial
   past-read p n = ap (λ (x : Partial). at + partialBytes x) (sym p) ∙ sym n
+
+-- ---- offsets at which the same stands
+
+module _ (f : List ℕ) {x y : ℕ} (a : Alike f x y) where
+  pub alike-partial : partialAt f x ≡ partialAt f y
+  alike-partial = elim a [ equal e ↦ ap (partialAt f) e | beyond p q ↦ partial-cut f x (omega arith) ∙ sym (partial-cut f y (omega arith)) ]
+
+  pub alike-past : Alike f (pastPartial f x) (pastPartial f y)
+  unfolding pastPartial
+  alike-past = elim a [ equal e ↦ equal (ap (pastPartial f) e) | beyond p q ↦ beyond (omega arith) (omega arith) ]
+
+  pub alike-word : wordAt f x ≡ wordAt f y
+  alike-word = elim a [ equal e ↦ ap (wordAt f) e | beyond p q ↦ word-cut f x (number-ends f 2 x (omega arith)) ∙ sym (word-cut f y (number-ends f 2 y (omega arith))) ]
+
+  pub alike-byte : (k : ℕ) → getD f (x + k) 0 ≡ getD f (y + k) 0
+  alike-byte k = elim a [ equal e ↦ ap (λ (x : ℕ). getD f (x + k) 0) e | beyond p q ↦ List·getD-eq-default f 0 (omega arith) ∙ sym (List·getD-eq-default f 0 (omega arith)) ]
 
 -- A list of offsets that is noted one after the other: what holds of each offset up to here holds with one more noted.
 pub marks-more : (R : ℕ → Read ℕ) (offsets : List ℕ) (i at : ℕ) → i < length offsets → R i ≡ accepted at → ((j : ℕ) → j < i → R j ≡ accepted (getD offsets j 0))

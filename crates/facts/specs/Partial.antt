@@ -1,5 +1,6 @@
 -- Partial states: some variables with a value each. Document 01, "The task file", calls them part states.
-use Prim.Native.Nat.{ℕ, zero, suc, _+_, _/_, _%_, _^_}
+use mathlib.Core.Path.{_≡_}
+use Prim.Native.Nat.{ℕ, zero, suc, _+_, _/_, _%_, _^_, _<_}
 use mathlib.Core.Bool.{Bool, true, false, _&&_}
 use mathlib.Core.List.{List, [], _∷_, _++_}
 use lib.Count.{ones}
@@ -70,3 +71,8 @@ partialAt f at = elim (leb (at + 8) (length f)) [ true ↦ standingAt f (numberA
 -- past the partial state at an offset
 unfoldable pub pastPartial : List ℕ → ℕ → ℕ
 pastPartial f at = at + partialBytes (partialAt f at)
+
+-- two offsets of the file f at which the same stands: they are equal, or both lie past its end
+pub data Alike (f : List ℕ) (x y : ℕ) : Type 0 where
+  equal : x ≡ y → Alike f x y
+  beyond : length f < x → length f < y → Alike f x y

@@ -111,3 +111,9 @@ pub enum Applied {
     Next(u32),
     Blocked,
 }
+
+// Whether a partial state holds, and if so where it ends.
+pub enum Held {
+    Ends(usize),
+    Not,
+}

@@ -1,17 +1,18 @@
 // Partial states in place: document 01's part states, as they stand in a file.
 use crate::Field;
+use crate::Held;
 use crate::Past;
 use crate::Refusal;
 use crate::number::read_map;
 use crate::number::read_word;
 ghost use mathlib.Core.Path.{_≡_};
-ghost use Prim.Native.Nat.{_+_, _%_, _^_, _≤_};
+ghost use Prim.Native.Nat.{_+_, _%_, _^_, _≤_, _<_};
 ghost use lib.Count.{ones};
 ghost use lib.Dec.{leb};
 ghost use lib.ListN.{length};
-ghost use Rattle.facts.specs.Answers.{pastAnswer};
+ghost use Rattle.facts.specs.Answers.{pastAnswer, heldAnswer, EndsAt, EndsAlike};
 ghost use Rattle.facts.specs.Bits.{LowestBit};
-ghost use Rattle.facts.specs.Partial.{holds, apply, partialBytes, valuePlace, standingAt, partialAt};
+ghost use Rattle.facts.specs.Partial.{holds, apply, partialBytes, valuePlace, standingAt, partialAt, pastPartial, Alike};
 ghost use Rattle.facts.specs.Fields.{nextOf, standing, readValue, readValues, readPartial, readOperator};
 
 // The length in bytes of a partial state with this map: "The count of standing bits is the count of value bytes."
@@ -157,71 +158,102 @@ fn values_end(file: &[u8], from: usize, map: u64, sizes: &[u8]) -> Past
     Past::Next(at)
 }
 
-// Whether the partial state at an offset holds in a state.
-pub fn holds_at(file: &[u8], at: usize, state: &[u8]) -> bool
-    ensures { λ r. ⌜ r ≡ holds (partialAt (now (file .entry)) at) (now (state .entry)) ⌝ }
+// Whether the partial state at an offset holds in a state, and if so where it ends.
+pub fn held_at(file: &[u8], at: usize, state: &[u8]) -> Held
+    ensures { λ r. ⌜ heldAnswer r ≡ holds (partialAt (now (file .entry)) at) (now (state .entry)) ⌝ }
+    ensures { λ r. ⌜ EndsAlike (now (file .entry)) (pastPartial (now (file .entry)) at) r ⌝ }
 {
     match read_map(file, at) {
-        Field::Refused(_) => true,
+        Field::Refused(_) => Held::Ends(past_map(file, at)),
         Field::Value(map) => values_hold(file, at + 8, map, state),
     }
 }
 
-// Whether the values from an offset on, for the standing bits of a map, are those of a state.
-fn values_hold(file: &[u8], from: usize, map: u64, state: &[u8]) -> bool
-    ensures { λ r. ⌜ r ≡ holds (standingAt (now (file .entry)) map from) (now (state .entry)) ⌝ }
+// Whether the partial state at an offset holds in a state.
+pub fn holds_at(file: &[u8], at: usize, state: &[u8]) -> bool
+    ensures { λ r. ⌜ r ≡ holds (partialAt (now (file .entry)) at) (now (state .entry)) ⌝ }
+{
+    match held_at(file, at, state) {
+        Held::Ends(_) => true,
+        Held::Not => false,
+    }
+}
+
+// Past the eight bytes of a map; past the end of the file the offset stays.
+fn past_map(file: &[u8], at: usize) -> usize
+    ensures { λ r. ⌜ Alike (now (file .entry)) r (at + 8) ⌝ }
+{
+    if file.len() < at {
+        return at;
+    }
+    at + 8
+}
+
+// Whether the values from an offset on, for the standing bits of a map, are those of a state; each turn takes the lowest bit away.
+fn values_hold(file: &[u8], from: usize, map: u64, state: &[u8]) -> Held
+    requires { ⌜ from ≤ length (now file) ⌝ }
+    ensures { λ r. ⌜ heldAnswer r ≡ holds (standingAt (now (file .entry)) map from) (now (state .entry)) ⌝ }
+    ensures { λ r. ⌜ EndsAt (from + ones map) r ⌝ }
 {
     let mut at = from;
     let mut rest = map;
-    let mut v: usize = 0;
     while rest != 0 {
         let bit = lowest_bit(rest);
-        v += bit.zeros;
+        let v = bit.zeros;
         if state.len() <= v {
-            return true;
+            return Held::Ends(past_values(at, rest));
         }
         if file.len() <= at {
-            return false;
+            return Held::Not;
         }
         if file[at] != state[v] {
-            return false;
+            return Held::Not;
         }
-        rest = bit.above;
-        v += 1;
+        rest = rest & (rest - 1);
         at += 1;
     }
-    true
+    Held::Ends(at)
 }
 
-// Sets the facts of the partial state at an offset in a state.
-pub fn apply_at(file: &[u8], at: usize, state: &mut [u8])
+// Past as many values as a map has standing bits.
+fn past_values(at: usize, map: u64) -> usize
+    requires { ⌜ at + 64 < 2 ^ 64 ⌝ }
+    ensures { λ r. ⌜ r ≡ at + ones map ⌝ }
+{
+    at + (u64::count_ones(map) as usize)
+}
+
+// Sets the facts of the partial state at an offset in a state, and goes past it.
+pub fn apply_at(file: &[u8], at: usize, state: &mut [u8]) -> usize
     ensures { λ r. ⌜ now (state .exit) ≡ apply (partialAt (now (file .entry)) at) (now (state .entry)) ⌝ }
+    ensures { λ r. ⌜ Alike (now (file .entry)) r (pastPartial (now (file .entry)) at) ⌝ }
 {
     match read_map(file, at) {
-        Field::Refused(_) => {}
+        Field::Refused(_) => past_map(file, at),
         Field::Value(map) => values_set(file, at + 8, map, state),
     }
 }
 
-// Sets the values from an offset on, for the standing bits of a map, in a state.
-fn values_set(file: &[u8], from: usize, map: u64, state: &mut [u8])
+// Sets the values from an offset on, for the standing bits of a map, in a state, and goes past them.
+fn values_set(file: &[u8], from: usize, map: u64, state: &mut [u8]) -> usize
+    requires { ⌜ from ≤ length (now file) ⌝ }
     ensures { λ r. ⌜ now (state .exit) ≡ apply (standingAt (now (file .entry)) map from) (now (state .entry)) ⌝ }
+    ensures { λ r. ⌜ r ≡ from + ones map ⌝ }
 {
     let mut at = from;
     let mut rest = map;
-    let mut v: usize = 0;
     while rest != 0 {
         let bit = lowest_bit(rest);
-        v += bit.zeros;
+        let v = bit.zeros;
         if state.len() <= v {
-            return;
+            return past_values(at, rest);
         }
         if file.len() <= at {
-            return;
+            return past_values(at, rest);
         }
         state[v] = file[at];
-        rest = bit.above;
-        v += 1;
+        rest = rest & (rest - 1);
         at += 1;
     }
+    at
 }

@@ -11,13 +11,13 @@ use lib.ListN.{length}
 use borrow.Author.Tests.{le-leb, lt-leb}
 use Rattle.facts.specs.Read.{Read, accepted, refused, _>>=_}
 use Rattle.facts.specs.ReadLaws.{not-refused, through, carried}
-use Rattle.facts.specs.Partial.{Partial, holds, apply, partialAt, pastPartial}
+use Rattle.facts.specs.Partial.{Partial, Alike, holds, apply, partialAt, pastPartial}
 use Rattle.facts.specs.Run.{next, blocked, attempt}
 use Rattle.facts.specs.Fields.{nextOf, Operator, readNumber, wordAt, readOperator}
 use Rattle.facts.specs.EachLaws.{next-snoc}
 use Rattle.facts.specs.FieldLaws.{field-refused, field-wrong, field-good}
 use Rattle.facts.specs.OperatorLaws.{operator-read}
-use Rattle.facts.specs.InPlaceLaws.{word-is, past-read}
+use Rattle.facts.specs.InPlaceLaws.{word-is, past-read, alike-partial, alike-past, alike-word}
 use Rattle.probe.specs.Probe.{Step, maxSteps, perform}
 use Rattle.probe.specs.ProbeFile.{readStep, readStepCount, readSteps}
 use Rattle.probe.specs.InPlace.{stepAt, Marked}
@@ -83,11 +83,13 @@ marked-none f sizes count from offsets h = record { marks = λ e j l. absurd (no
 -- ---- steps in place
 
 module _ (f : List ℕ) (at : ℕ) (s : List ℕ) where
-  pub performs : {effect cost : ℕ} → effect ≡ pastPartial f at → cost ≡ wordAt f (pastPartial f effect) → holds (partialAt f at) s ≡ true
-      → next (apply (partialAt f effect) s) cost ≡ perform (stepAt f at) s
+  pub performs : {effect cost : ℕ} → Alike f effect (pastPartial f at) → Alike f cost (pastPartial f effect) → true ≡ holds (partialAt f at) s
+      → next (apply (partialAt f effect) s) (wordAt f cost) ≡ perform (stepAt f at) s
   unfolding stepAt
-  performs e c h = rw (h, attempt, e, c, e)
+  performs {effect} {cost} e c h =
+      let word : wordAt f cost ≡ wordAt f (pastPartial f (pastPartial f at)) = alike-word f c ∙ alike-word f (alike-past f e) in
+      rw (← h, attempt, alike-partial f e, word)
 
-  pub performs-not : holds (partialAt f at) s ≡ false → blocked ≡ perform (stepAt f at) s
+  pub performs-not : false ≡ holds (partialAt f at) s → blocked ≡ perform (stepAt f at) s
   unfolding stepAt
-  performs-not h = rw (h, attempt)
+  performs-not h = rw (← h, attempt)

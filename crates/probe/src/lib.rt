@@ -16,7 +16,7 @@ ghost use Rattle.facts.specs.Partial.{partialAt};
 ghost use Rattle.facts.specs.Run.{runFrom};
 ghost use Rattle.probe.specs.ProbeFile.{checkProbe, runProbe};
 ghost use Rattle.estimate.specs.Answers.{estimatedAnswer};
-ghost use Rattle.probe.specs.InPlace.{moveAt, Within};
+ghost use Rattle.probe.specs.InPlace.{moveAt};
 ghost use Rattle.probe.specs.Estimate.{estimateProbe, InPlace};
 
 // A probe file: its limits.
@@ -98,7 +98,7 @@ fn estimate_from(file: &[u8], variables: usize, offsets: &[usize], state: &[u8])
 
 // Runs a list from the initial state: `offsets` has the offset of each step.
 fn run_from_start(file: &[u8], variables: usize, offsets: &[usize], list: &[u16]) -> Ran
-    requires { ⌜ Within (now file) (now offsets) × (length (now list) ≤ 6656) × (variables ≤ 57) × (1 + 2 * variables ≤ length (now file)) ⌝ }
+    requires { ⌜ (length (now list) ≤ 6656) × (variables ≤ 57) × (1 + 2 * variables ≤ length (now file)) ⌝ }
     ensures { λ r. ⌜ ranAnswer r ≡ runFrom (length (now (offsets .entry))) (moveAt (now (file .entry)) (now (offsets .entry))) (partialAt (now (file .entry)) (1 + 2 * variables)) 0 0 (now (list .entry)) (take variables (drop (1 + variables) (now (file .entry)))) ⌝ }
 {
     let init = 1 + variables;
@@ -110,7 +110,7 @@ fn run_from_start(file: &[u8], variables: usize, offsets: &[usize], list: &[u16]
 
 // Runs a list from a state: `offsets` has the offset of each step, and the goal starts at `goal`.
 fn run_list(file: &[u8], goal: usize, offsets: &[usize], list: &[u16], state: &mut [u8]) -> Ran
-    requires { ⌜ Within (now file) (now offsets) × (length (now list) ≤ 6656) ⌝ }
+    requires { ⌜ length (now list) ≤ 6656 ⌝ }
     ensures { λ r. ⌜ ranAnswer r ≡ runFrom (length (now (offsets .entry))) (moveAt (now (file .entry)) (now (offsets .entry))) (partialAt (now (file .entry)) goal) 0 0 (now (list .entry)) (now (state .entry)) ⌝ }
 {
     let mut sum: u32 = 0;

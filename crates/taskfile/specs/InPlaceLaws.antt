@@ -5,7 +5,7 @@ use native.Mathlib.Nat.{lt-of-not-le}
 use native.Mathlib.Decide.{decLe}
 use native.Mathlib.Numerals.{add-one}
 use native.Mathlib.Omega.{arith}
-use mathlib.Core.Bool.{Bool, true, _&&_}
+use mathlib.Core.Bool.{Bool, true, false, _&&_}
 use mathlib.Core.List.{List, [], _∷_, _++_, map, append-nil}
 use lib.Dec.{leb, ltb}
 use lib.ListN.{length, getD, take, drop, length-append, length-drop, drop-of-length-le, List·getD-append}
@@ -19,34 +19,39 @@ use Rattle.facts.specs.ListLaws.{length-upFrom, at-length, at-getD}
 use Rattle.facts.specs.BytesLaws.{number-one}
 use Rattle.facts.specs.Fields.{each, nextOf, valueOf, readNumber, readCount, readWeight}
 use Rattle.facts.specs.EachLaws.{next-snoc, each-on, each-stops, each-at, each-length}
-use Rattle.facts.specs.FieldLaws.{Counted, byte-ends, byte-wrong, byte-good, field-refused, field-good, count-read}
+use Rattle.facts.specs.FieldLaws.{Counted, byte-ends, byte-wrong, byte-good, number-reads, field-refused, field-good, count-read}
 use Rattle.taskfile.specs.Task.{Edge, Node, level}
 use Rattle.taskfile.specs.TaskFile.{edgeBytes, nodeBytes, checkTargets, checkRising, readVariable, readTarget, readEdge, readEdges, readNode, readNodes, readDiagram}
 use Rattle.taskfile.specs.InPlace.{levelAt, targetsRise, nodesRise, readFirst, Marked, diagramAt, Placed}
 use Rattle.taskfile.specs.DiagramReadLaws.{edge-read, node-read, diagram-read}
 
+-- ---- targets ahead of node i, of m
+
+module _ (m i : ℕ) where
+  abbrev Ahead : ℕ → Bool
+  Ahead t = ltb i t && leb t (suc m)
+
+  pub not-ahead : (t : ℕ) → t ≤ i → false ≡ Ahead t
+  not-ahead t h = rw (le-ltb i t h)
+
+  pub ahead-is : (t : ℕ) → i < t → leb (t - 1) m ≡ Ahead t
+  ahead-is t h = rw (lt-ltb i t h) (elim (decLe t (suc m)) [ yes k ↦ le-leb (t - 1) m (omega arith) ∙ sym (le-leb t (suc m) k) | no k ↦ lt-leb (t - 1) m (omega (arith, lt-of-not-le k)) ∙ sym (lt-leb t (suc m) (lt-of-not-le k)) ])
+
 module _ (f : List ℕ) where
   -- ---- the ways in which a target can go
 
   module _ (m i at : ℕ) where
-    abbrev Ahead : ℕ → Bool
-    Ahead t = ltb i t && leb t (suc m)
-
     pub target-ends : length f ≤ at → readTarget f m i at ≡ refused 1 at
     unfolding readTarget
-    target-ends h = byte-ends f Ahead 6 at h
+    target-ends h = byte-ends f (Ahead m i) 6 at h
 
-    pub target-behind : at < length f → getD f at 0 ≤ i → readTarget f m i at ≡ refused 6 at
+    pub target-wrong : at < length f → Ahead m i (getD f at 0) ≡ false → readTarget f m i at ≡ refused 6 at
     unfolding readTarget
-    target-behind h g = byte-wrong f Ahead 6 at h (rw (le-ltb i (getD f at 0) g))
+    target-wrong h g = byte-wrong f (Ahead m i) 6 at h g
 
-    pub target-beyond : at < length f → i < getD f at 0 → suc m < getD f at 0 → readTarget f m i at ≡ refused 6 at
+    pub target-good : at < length f → Ahead m i (getD f at 0) ≡ true → readTarget f m i at ≡ accepted (getD f at 0, at + 1)
     unfolding readTarget
-    target-beyond h g l = byte-wrong f Ahead 6 at h (rw (lt-ltb i (getD f at 0) g, lt-leb (getD f at 0) (suc m) l))
-
-    pub target-good : at < length f → i < getD f at 0 → getD f at 0 ≤ suc m → readTarget f m i at ≡ accepted (getD f at 0, at + 1)
-    unfolding readTarget
-    target-good h g l = byte-good f Ahead 6 at h (rw (lt-ltb i (getD f at 0) g, le-leb (getD f at 0) (suc m) l))
+    target-good h g = byte-good f (Ahead m i) 6 at h g
 
     -- ---- the ways in which an edge can go, past it
 
@@ -68,6 +73,13 @@ module _ (f : List ℕ) where
       pub edge-good : {n : ℕ} → readNumber f 2 weight ≡ accepted n → nextOf (readEdge f m i at) ≡ accepted (weight + 2)
       unfolding readEdge readWeight
       edge-good e = rw (target-is, field-good f 2 (λ w. true) 3 weight e refl)
+
+    -- the same by its bytes, where the file has them
+    pub edge-wrong : at < length f → Ahead m i (getD f at 0) ≡ false → nextOf (readEdge f m i at) ≡ refused 6 at
+    edge-wrong h g = edge-no-target (ap nextOf (target-wrong h g))
+
+    pub edge-whole : at + edgeBytes ≤ length f → Ahead m i (getD f at 0) ≡ true → nextOf (readEdge f m i at) ≡ accepted (at + edgeBytes)
+    edge-whole h g = edge-good (ap nextOf (target-good (omega arith) g)) (number-reads f 2 (at + 1) (omega arith)) ∙ ap accepted (omega arith)
 
   -- ---- the ways in which a node can go, past it
 

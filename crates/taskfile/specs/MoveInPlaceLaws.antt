@@ -1,17 +1,18 @@
 -- Laws of moves in place: what an action does by its bytes, and that a run by the offsets of an accepted file is one of the actions that were read.
-use mathlib.Core.Path.{_≡_, refl, sym, ap, _∙_}
+use mathlib.Core.Path.{_≡_, sym, ap, _∙_}
 use Prim.Native.Nat.{ℕ, _+_, _-_, _≤_, _<_, min}
 use native.Mathlib.Nat.{lt-of-not-le}
 use native.Mathlib.Decide.{decLe}
 use native.Mathlib.Omega.{arith}
-use mathlib.Core.Bool.{Bool, true, false}
+use mathlib.Core.Bool.{true, false}
 use mathlib.Core.List.{List, []}
 use lib.ListN.{length, getD, take, drop, length-drop, drop-of-length-le}
 use lib.Seq.{getD-take, take-length}
 use Rattle.facts.specs.Read.{accepted, refused}
 use Rattle.facts.specs.Lists.{At}
 use Rattle.facts.specs.ListLaws.{at-getD, at-length}
-use Rattle.facts.specs.Partial.{Partial, holds, apply, partialAt, pastPartial}
+use Rattle.facts.specs.Partial.{Partial, Alike, holds, apply, partialAt, pastPartial}
+use Rattle.facts.specs.InPlaceLaws.{alike-partial}
 use Rattle.facts.specs.State.{Inside}
 use Rattle.facts.specs.Run.{Move, next, blocked, attempt, runFrom}
 use Rattle.facts.specs.RunLaws.{attempt-length, run-missing, run-blocked, run-next, run-unmet, run-met, run-same, list-long, list-fits}
@@ -20,36 +21,20 @@ use Rattle.taskfile.specs.TaskFile.{readTask}
 use Rattle.taskfile.specs.InPlace.{Located}
 use Rattle.taskfile.specs.TaskReadLaws.{task-wf}
 use Rattle.taskfile.specs.TaskLaws.{move-at, passes-at, attempt-inside}
-use Rattle.taskfile.specs.WalkInPlace.{walkAt, performBy, performAt, moveBy, moveAt, passesAt, runList}
-use Rattle.taskfile.specs.WalkInPlaceLaws.{perform-in-place}
+use Rattle.taskfile.specs.WalkInPlace.{walkPast, walkAt, performBy, moveBy, moveAt, passesAt, runList}
+use Rattle.taskfile.specs.WalkInPlaceLaws.{walk-behind, perform-in-place}
 
 -- ---- what an action in place does
 
--- the same move at another cost
-abbrev pub atCost : ℕ → Move → Move
-atCost c (next s paid) = next s c
-atCost c blocked = blocked
-
-attempt-at : (pre eff : Partial) (paid c : ℕ) (s : List ℕ) → atCost c (attempt pre eff paid s) ≡ attempt pre eff c s
-attempt-at pre eff paid c s = go (holds pre s)
-  where
-    go : (b : Bool) → atCost c (elim b as (λ b. Move) [ true ↦ next (apply eff s) paid | false ↦ blocked ]) ≡ elim b as (λ b. Move) [ true ↦ next (apply eff s) c | false ↦ blocked ]
-    go true = refl
-    go false = refl
-
-module _ (f : List ℕ) (at : ℕ) (nodes s : List ℕ) where
-  pub performs : {effect : Partial} {cost : ℕ} → effect ≡ partialAt f (pastPartial f at) → cost ≡ walkAt f at nodes s .cost → holds (partialAt f at) s ≡ true → next (apply effect s) cost ≡ performAt f at nodes s
+module _ (f : List ℕ) (at : ℕ) (nodes s : List ℕ) (measure : Walk → ℕ) where
+  pub performs : {effect cost : ℕ} → Alike f effect (pastPartial f at) → cost ≡ measure (walkPast f effect nodes s) → true ≡ holds (partialAt f at) s
+      → next (apply (partialAt f effect) s) cost ≡ performBy measure f at nodes s
   unfolding performBy
-  performs e c h = rw (h, attempt, e, c)
+  performs e c h = rw (← h, attempt, alike-partial f e, c, walk-behind f at e nodes s)
 
-  pub performs-not : holds (partialAt f at) s ≡ false → blocked ≡ performAt f at nodes s
+  pub performs-not : false ≡ holds (partialAt f at) s → blocked ≡ performBy measure f at nodes s
   unfolding performBy
-  performs-not h = rw (h, attempt)
-
-  -- by every measure of the walk it applies or not, and leads to the same state
-  performs-too : (measure other : Walk → ℕ) → atCost (other (walkAt f at nodes s)) (performBy measure f at nodes s) ≡ performBy other f at nodes s
-  unfolding performBy
-  performs-too measure other = attempt-at (partialAt f at) (partialAt f (pastPartial f at)) (measure (walkAt f at nodes s)) (other (walkAt f at nodes s)) s
+  performs-not h = rw (← h, attempt)
 
 -- ---- moves
 
@@ -64,18 +49,10 @@ own-nodes nodes n {k} e =
     ]
 
 module _ (f actions firsts nodes : List ℕ) (a : ℕ) (s : List ℕ) where
-  module _ {k : ℕ} {m : Move} (e : k ≡ min (getD firsts a 0) (length nodes)) (h : m ≡ performAt f (getD actions a 0) (take (length nodes - k) (drop k nodes)) s) where
-    -- what the action at an offset does is what its number does
-    pub moves : m ≡ moveAt f actions firsts nodes a s
-    unfolding moveBy
-    moves = h ∙ ap (λ (own : List ℕ). performAt f (getD actions a 0) own s) (own-nodes nodes (getD firsts a 0) e)
-
-    -- and so it is with the nodes passed in place of the cost
-    pub passes : {passed : ℕ} → passed ≡ walkAt f (getD actions a 0) (take (length nodes - k) (drop k nodes)) s .passed → atCost passed m ≡ passesAt f actions firsts nodes a s
-    unfolding moveBy
-    passes p =
-        rw (p, h) (performs-too f (getD actions a 0) (take (length nodes - k) (drop k nodes)) s (λ (w : Walk). w .cost) (λ (w : Walk). w .passed))
-        ∙ ap (λ (own : List ℕ). performBy (λ (w : Walk). w .passed) f (getD actions a 0) own s) (own-nodes nodes (getD firsts a 0) e)
+  -- what the action at an offset does is what its number does
+  pub moves : (measure : Walk → ℕ) {k : ℕ} {m : Move} → k ≡ min (getD firsts a 0) (length nodes) → m ≡ performBy measure f (getD actions a 0) (take (length nodes - k) (drop k nodes)) s → m ≡ moveBy measure f actions firsts nodes a s
+  unfolding moveBy
+  moves measure e h = h ∙ ap (λ (own : List ℕ). performBy measure f (getD actions a 0) own s) (own-nodes nodes (getD firsts a 0) e)
 
   -- a state keeps its length
   pub move-length : {e : List ℕ} {c : ℕ} → moveAt f actions firsts nodes a s ≡ next e c → length e ≡ length s

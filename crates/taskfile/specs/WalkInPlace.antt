@@ -7,7 +7,7 @@ use lib.ListN.{getD, drop}
 use Rattle.facts.specs.Read.{Read, _>>=_}
 use Rattle.facts.specs.Partial.{Partial, partialAt, pastPartial}
 use Rattle.facts.specs.Fields.{wordAt}
-use Rattle.facts.specs.Run.{Move, attempt, runFrom, atMost}
+use Rattle.facts.specs.Run.{Move, next, blocked, attempt, runFrom, atMost}
 use Rattle.taskfile.specs.Task.{Edge, Walk, arrived, along, maxWeight, maxList}
 use Rattle.taskfile.specs.TaskFile.{edgeBytes}
 
@@ -17,7 +17,11 @@ use Rattle.taskfile.specs.TaskFile.{edgeBytes}
 unfoldable pub incomingPlace : List ℕ → ℕ → ℕ
 incomingPlace f at = pastPartial f (pastPartial f at)
 
--- how many nodes it has: the byte after the incoming weight
+-- how many nodes an action has whose effect is at an offset: the byte after the incoming weight
+unfoldable pub countPast : List ℕ → ℕ → ℕ
+countPast f effect = getD f (pastPartial f effect + 2) 0
+
+-- how many nodes the action at an offset has
 unfoldable pub nodeCount : List ℕ → ℕ → ℕ
 nodeCount f at = getD f (incomingPlace f at + 2) 0
 
@@ -48,11 +52,15 @@ module _ (f nodes : List ℕ) (m : ℕ) (s : List ℕ) where
   unfoldable pub wayFrom : ℕ → Walk
   wayFrom k = wayUp (suc m - k) k
 
--- the walk of the action at an offset, whose own nodes begin at the offsets `nodes`, from node 1 on
+-- the walk of an action whose effect is at an offset, and whose own nodes begin at the offsets `nodes`, from node 1 on
+unfoldable pub walkPast : List ℕ → ℕ → List ℕ → List ℕ → Walk
+walkPast f effect nodes s =
+    let w = wayFrom f nodes (countPast f effect) s 1 in
+    record { cost = wordAt f (pastPartial f effect) + w .cost; passed = w .passed }
+
+-- the walk of the action at an offset
 unfoldable pub walkAt : List ℕ → ℕ → List ℕ → List ℕ → Walk
-walkAt f at nodes s =
-    let w = wayFrom f nodes (nodeCount f at) s 1 in
-    record { cost = wordAt f (incomingPlace f at) + w .cost; passed = w .passed }
+walkAt f at nodes s = walkPast f (pastPartial f at) nodes s
 
 -- the nodes that one walk passes: how many an action has is one byte
 abbrev pub maxPassed : ℕ
@@ -63,6 +71,11 @@ abbrev pub maxWalk : ℕ
 maxWalk = maxWeight * suc maxPassed
 
 -- ---- moves
+
+-- the same move at another cost
+abbrev pub atCost : ℕ → Move → Move
+atCost c (next s paid) = next s c
+atCost c blocked = blocked
 
 -- what the action at an offset does in the state s, with a measure of its walk in s, the state before it, as the cost
 unfoldable pub performBy : (Walk → ℕ) → List ℕ → ℕ → List ℕ → List ℕ → Move
@@ -75,6 +88,10 @@ moveBy measure f actions firsts nodes a s = performBy measure f (getD actions a 
 -- what the action at an offset does: it costs what its walk costs
 abbrev pub performAt : List ℕ → ℕ → List ℕ → List ℕ → Move
 performAt = performBy (λ w. w .cost)
+
+-- what it does, with the number of nodes that its walk passes in place of the cost
+abbrev pub passAt : List ℕ → ℕ → List ℕ → List ℕ → Move
+passAt = performBy (λ w. w .passed)
 
 -- what action number a does
 abbrev pub moveAt : List ℕ → List ℕ → List ℕ → List ℕ → ℕ → List ℕ → Move

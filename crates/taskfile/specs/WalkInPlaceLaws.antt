@@ -11,14 +11,13 @@ use borrow.Author.Tests.{le-leb, lt-leb, le-ltb, lt-ltb}
 use Rattle.facts.specs.Lists.{At}
 use Rattle.facts.specs.ListLaws.{at-length}
 use Rattle.facts.specs.BytesLaws.{number-one}
-use Rattle.facts.specs.Partial.{partialAt, pastPartial}
-use Rattle.facts.specs.PartialLaws.{partial-cut}
+use Rattle.facts.specs.Partial.{Alike, beyond, pastPartial}
 use Rattle.facts.specs.State.{Inside}
 use Rattle.facts.specs.Run.{attempt}
 use Rattle.facts.specs.Fields.{wordAt}
 use Rattle.facts.specs.PartialReadLaws.{Partial-read}
 use Rattle.facts.specs.FieldLaws.{Weighed, number-ends, count-read}
-use Rattle.facts.specs.InPlaceLaws.{word-cut, word-is, past-read}
+use Rattle.facts.specs.InPlaceLaws.{word-cut, word-is, past-read, alike-past, alike-word, alike-byte}
 use Rattle.facts.specs.OperatorLaws.{Operator-read, operator-read}
 use Rattle.taskfile.specs.Task.{Edge, Node, Action, edgeAt, Walk, arrived, along, walkFrom, walk, WfAction}
 use Rattle.taskfile.specs.TaskFile.{edgeBytes}
@@ -26,7 +25,7 @@ use Rattle.taskfile.specs.InPlace.{Lies}
 use Rattle.taskfile.specs.WalkLaws.{edge-there, edge-wf, walk-node, walk-terminal, walk-induction}
 use Rattle.taskfile.specs.DiagramReadLaws.{Diagram-read, diagram-read, node-read, node-edge}
 use Rattle.taskfile.specs.TaskReadLaws.{Action-read, action-read, action-wf}
-use Rattle.taskfile.specs.WalkInPlace.{incomingPlace, nodeCount, edgeOf, edgeFrom, onward, wayUp, wayFrom, walkAt, performBy}
+use Rattle.taskfile.specs.WalkInPlace.{countPast, incomingPlace, nodeCount, edgeOf, edgeFrom, onward, wayUp, wayFrom, walkPast, walkAt, performBy}
 use Rattle.taskfile.specs.PartsInPlace.{edgeIn}
 
 -- ---- the edge of the node at an offset
@@ -129,17 +128,32 @@ module _ (f : List ℕ) (at : ℕ) (nodes s : List ℕ) {effect incoming count :
   unfolding nodeCount
   count-same = n ∙ ap (λ (p : ℕ). getD f (p + 2) 0) place-same
 
-  pub incoming-same : {weight : ℕ} → weight ≡ wordAt f incoming → weight ≡ wordAt f (incomingPlace f at)
-  incoming-same w = w ∙ ap (wordAt f) place-same
-
-module _ (f : List ℕ) (at : ℕ) (nodes s : List ℕ) {weight count : ℕ} (w : weight ≡ wordAt f (incomingPlace f at)) (n : count ≡ nodeCount f at) where
-  pub cost-is : {cost : ℕ} → cost ≡ wayFrom f nodes count s 1 .cost → weight + cost ≡ walkAt f at nodes s .cost
-  unfolding walkAt
+module _ (f : List ℕ) (effect : ℕ) (nodes s : List ℕ) {weight count : ℕ} (w : weight ≡ wordAt f (pastPartial f effect)) (n : count ≡ countPast f effect) where
+  pub cost-is : {cost : ℕ} → cost ≡ wayFrom f nodes count s 1 .cost → weight + cost ≡ walkPast f effect nodes s .cost
+  unfolding walkPast
   cost-is c = rw (← n, w, c)
 
-  pub passed-is : {passed : ℕ} → passed ≡ wayFrom f nodes count s 1 .passed → passed ≡ walkAt f at nodes s .passed
-  unfolding walkAt
+  pub passed-is : {passed : ℕ} → passed ≡ wayFrom f nodes count s 1 .passed → passed ≡ walkPast f effect nodes s .passed
+  unfolding walkPast
   passed-is p = rw (← n) p
+
+pub count-here : (f : List ℕ) (effect : ℕ) {incoming count : ℕ} → incoming ≡ pastPartial f effect → count ≡ getD f (incoming + 2) 0 → count ≡ countPast f effect
+unfolding countPast
+count-here f effect i n = n ∙ ap (λ (p : ℕ). getD f (p + 2) 0) i
+
+-- what stands behind the effect, wherever the code found that
+module _ (f : List ℕ) (at : ℕ) {effect : ℕ} (e : Alike f effect (pastPartial f at)) where
+  pub weight-behind : wordAt f (pastPartial f effect) ≡ wordAt f (incomingPlace f at)
+  unfolding incomingPlace
+  weight-behind = alike-word f (alike-past f e)
+
+  pub count-behind : countPast f effect ≡ nodeCount f at
+  unfolding countPast nodeCount incomingPlace
+  count-behind = alike-byte f (alike-past f e) 2
+
+  pub walk-behind : (nodes s : List ℕ) → walkPast f effect nodes s ≡ walkAt f at nodes s
+  unfolding walkAt walkPast countPast
+  walk-behind nodes s = rw (alike-word f (alike-past f e), alike-byte f (alike-past f e) 2)
 
 -- ---- past the end of the file there is nothing
 
@@ -148,8 +162,8 @@ unfolding pastPartial
 past-on f at = omega arith
 
 module _ (f : List ℕ) (at : ℕ) (past : length f < at) where
-  pub effect-none : partialAt f at ≡ partialAt f (pastPartial f at)
-  effect-none = partial-cut f at (omega arith) ∙ sym (partial-cut f (pastPartial f at) (omega (arith, past-on f at)))
+  pub effect-none : Alike f at (pastPartial f at)
+  effect-none = beyond past (omega (arith, past-on f at))
 
   incoming-past : length f < incomingPlace f at
   unfolding incomingPlace
@@ -159,8 +173,12 @@ module _ (f : List ℕ) (at : ℕ) (past : length f < at) where
   unfolding nodeCount
   count-none = List·getD-eq-default f 0 (omega (arith, incoming-past))
 
-  pub weight-none : wordAt f (incomingPlace f at) ≡ 0
-  weight-none = word-cut f (incomingPlace f at) (number-ends f 2 (incomingPlace f at) (omega (arith, incoming-past)))
+  pub weight-past : wordAt f (pastPartial f at) ≡ 0
+  weight-past = word-cut f (pastPartial f at) (number-ends f 2 (pastPartial f at) (omega (arith, past-on f at)))
+
+  pub count-past : countPast f at ≡ 0
+  unfolding countPast
+  count-past = List·getD-eq-default f 0 (omega (arith, past-on f at))
 
 -- ---- an action x that is read at an offset of an accepted file, and its nodes at the offsets from index `first` on
 
@@ -237,7 +255,7 @@ module _ (f : List ℕ) {sizes : List ℕ} {x : Action} {at first : ℕ} {all : 
 
     -- the walk in place is the action's
     pub walk-in-place : walkAt f at (drop first all) s ≡ walk x s
-    unfolding walkAt walk
+    unfolding walkAt walkPast countPast nodeCount incomingPlace walk
     walk-in-place = rw (count-is, weight-is, way-in-place)
 
     pub perform-in-place : (measure : Walk → ℕ) → performBy measure f at (drop first all) s ≡ attempt (x .pre) (x .eff) (measure (walk x s)) s

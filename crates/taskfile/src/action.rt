@@ -1,17 +1,19 @@
 // Actions in place: one applied, and a list of them run.
 use crate::Task;
-use crate::walk::walk_at;
+use crate::walk::walk_past;
 use facts::Applied;
+use facts::Held;
 use facts::Ran;
 use facts::Refusal;
 use facts::number::offset_within;
-use facts::partial::length_at;
+use facts::partial::apply_at;
+use facts::partial::held_at;
 ghost use mathlib.Core.Path.{_≡_};
 ghost use Prim.Native.Nat.{_≤_};
 ghost use lib.ListN.{length};
-ghost use Rattle.facts.specs.Partial.{partialAt, pastPartial};
+ghost use Rattle.facts.specs.Partial.{partialAt};
 ghost use Rattle.facts.specs.Answers.{ranAnswer, appliedMove, CostMost};
-ghost use Rattle.taskfile.specs.WalkInPlace.{walkAt, maxPassed, maxWalk, performAt, moveAt, passesAt, runList};
+ghost use Rattle.taskfile.specs.WalkInPlace.{maxPassed, maxWalk, atCost, performAt, passAt, moveAt, passesAt, runList};
 ghost use Rattle.taskfile.specs.Answers.{passedAnswer};
 
 // What an action answers, and how many nodes its walk passes.
@@ -29,32 +31,24 @@ pub struct Run {
 // Does the action at an offset: where its precondition holds, its effect is set in the state, and it costs what its walk costs in the state before.
 pub fn apply_action(file: &[u8], at: usize, nodes: &[usize], state: &mut [u8]) -> Act
     ensures { λ r. ⌜ appliedMove (r .answer) (now (state .exit)) ≡ performAt (now (file .entry)) at (now (nodes .entry)) (now (state .entry)) ⌝ }
-    ensures { λ r. ⌜ r .passed ≡ walkAt (now (file .entry)) at (now (nodes .entry)) (now (state .entry)) .passed ⌝ }
+    ensures { λ r. ⌜ atCost (r .passed) (appliedMove (r .answer) (now (state .exit))) ≡ passAt (now (file .entry)) at (now (nodes .entry)) (now (state .entry)) ⌝ }
     ensures { λ r. ⌜ CostMost maxWalk (r .answer) ⌝ }
     ensures { λ r. ⌜ r .passed ≤ maxPassed ⌝ }
 {
-    let walked = walk_at(file, at, nodes, state);
-    if facts::partial::holds_at(file, at, state) {
-        facts::partial::apply_at(file, effect_at(file, at), state);
-        return Act {
-            answer: Applied::Next(walked.cost),
-            passed: walked.passed,
-        };
+    match held_at(file, at, state) {
+        Held::Not => Act {
+            answer: Applied::Blocked,
+            passed: 0,
+        },
+        Held::Ends(effect) => {
+            let walked = walk_past(file, effect, nodes, state);
+            apply_at(file, effect, state);
+            Act {
+                answer: Applied::Next(walked.cost),
+                passed: walked.passed,
+            }
+        }
     }
-    Act {
-        answer: Applied::Blocked,
-        passed: walked.passed,
-    }
-}
-
-// Where the effect of the action at an offset stands; past the end of the file, where there are no facts, it is at the offset itself.
-fn effect_at(file: &[u8], at: usize) -> usize
-    ensures { λ r. ⌜ partialAt (now (file .entry)) r ≡ partialAt (now (file .entry)) (pastPartial (now (file .entry)) at) ⌝ }
-{
-    if file.len() < at {
-        return at;
-    }
-    at + length_at(file, at)
 }
 
 // Runs a list of at most 256 numbers from a state: `action_at` has the offset of each action, `first_node` the index of its first node in `node_at`, and the goal starts at `goal`.

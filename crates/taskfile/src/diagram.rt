@@ -8,11 +8,13 @@ use facts::Refusal;
 use facts::number::byte_at;
 use facts::number::offset_at;
 ghost use mathlib.Core.Path.{_≡_};
-ghost use Prim.Native.Nat.{ℕ, _-_, _≤_, _<_};
+ghost use Prim.Native.Nat.{ℕ, suc, _+_, _*_, _-_, _≤_, _<_};
+ghost use mathlib.Core.Bool.{_&&_};
+ghost use lib.Dec.{leb, ltb};
 ghost use lib.ListN.{length, getD};
 ghost use Rattle.facts.specs.Answers.{pastAnswer, checkedAnswer};
 ghost use Rattle.facts.specs.Fields.{nextOf};
-ghost use Rattle.taskfile.specs.TaskFile.{readTarget, readEdge, readEdges, readNode, readNodes};
+ghost use Rattle.taskfile.specs.TaskFile.{edgeBytes, readTarget, readEdge, readEdges, readNode, readNodes};
 ghost use Rattle.taskfile.specs.Answers.{drawnAnswer};
 ghost use Rattle.taskfile.specs.InPlace.{levelAt, targetsRise, nodesRise, Marked, diagramAt, Placed};
 
@@ -84,8 +86,37 @@ fn node_end(file: &[u8], at: usize, sizes: &[u8], m: usize, i: usize) -> Past
     edges_end(file, at + 1, m, i, sizes[variable] as usize)
 }
 
-// Past the edges of node i, of m.
+// Past the edges of node i, of m: one test tells whether the file has the bytes of all of them.
 fn edges_end(file: &[u8], from: usize, m: usize, i: usize, count: usize) -> Past
+    requires { ⌜ (from ≤ length (now file)) × (count < 256) ⌝ }
+    ensures { λ r. ⌜ pastAnswer r ≡ nextOf (readEdges (now (file .entry)) m i count from) ⌝ }
+{
+    if file.len() - from < EDGE_BYTES * count {
+        return edges_cut(file, from, m, i, count);
+    }
+    edges_whole(file, from, m, i, count)
+}
+
+// The same, where the file has the bytes of all of them.
+fn edges_whole(file: &[u8], from: usize, m: usize, i: usize, count: usize) -> Past
+    requires { ⌜ from + edgeBytes * count ≤ length (now file) ⌝ }
+    ensures { λ r. ⌜ pastAnswer r ≡ nextOf (readEdges (now (file .entry)) m i count from) ⌝ }
+{
+    let mut at = from;
+    let mut d: usize = 0;
+    while d < count {
+        if ahead(file[at] as usize, m, i) {
+            at += EDGE_BYTES;
+            d += 1;
+            continue;
+        }
+        return Past::Refused(Refusal::Diagram(at));
+    }
+    Past::Next(at)
+}
+
+// The same, edge by edge.
+fn edges_cut(file: &[u8], from: usize, m: usize, i: usize, count: usize) -> Past
     ensures { λ r. ⌜ pastAnswer r ≡ nextOf (readEdges (now (file .entry)) m i count from) ⌝ }
 {
     let mut at = from;
@@ -124,14 +155,20 @@ fn target_end(file: &[u8], at: usize, m: usize, i: usize) -> Past
     if file.len() <= at {
         return Past::Refused(Refusal::Ends(at));
     }
-    let target = file[at] as usize;
+    if ahead(file[at] as usize, m, i) {
+        return Past::Next(at + 1);
+    }
+    Past::Refused(Refusal::Diagram(at))
+}
+
+// Whether a target lies ahead of node i, of m: a later node, or the terminal.
+fn ahead(target: usize, m: usize, i: usize) -> bool
+    ensures { λ r. ⌜ r ≡ (ltb i target && leb target (suc m)) ⌝ }
+{
     if target <= i {
-        return Past::Refused(Refusal::Diagram(at));
+        return false;
     }
-    if m < target - 1 {
-        return Past::Refused(Refusal::Diagram(at));
-    }
-    Past::Next(at + 1)
+    target - 1 <= m
 }
 
 // Whether the variable rises along each edge of the m nodes at these offsets.

@@ -5,11 +5,12 @@ use facts::number::word_at;
 use facts::partial::length_at;
 ghost use mathlib.Core.Path.{_≡_};
 ghost use Prim.Native.Nat.{_+_, _*_, _≤_};
+ghost use Rattle.facts.specs.Partial.{pastPartial, Alike};
 ghost use Rattle.facts.specs.Fields.{wordAt};
 ghost use Rattle.taskfile.specs.Task.{maxWeight};
 ghost use Rattle.taskfile.specs.TaskFile.{edgeBytes};
 ghost use Rattle.taskfile.specs.PartsInPlace.{edgeIn};
-ghost use Rattle.taskfile.specs.WalkInPlace.{incomingPlace, nodeCount, edgeOf, wayFrom, walkAt, maxPassed, maxWalk};
+ghost use Rattle.taskfile.specs.WalkInPlace.{countPast, incomingPlace, nodeCount, edgeOf, wayFrom, walkPast, walkAt, maxPassed, maxWalk};
 
 // A walk: the weights of its edges added up, and the number of nodes that it passes.
 pub struct Walked {
@@ -37,7 +38,14 @@ pub struct Diagram {
 pub fn walk_at(file: &[u8], at: usize, nodes: &[usize], state: &[u8]) -> Walked
     ensures { λ r. ⌜ (r .cost ≡ walkAt (now (file .entry)) at (now (nodes .entry)) (now (state .entry)) .cost) × (r .passed ≡ walkAt (now (file .entry)) at (now (nodes .entry)) (now (state .entry)) .passed) × (r .cost ≤ maxWalk) × (r .passed ≤ maxPassed) ⌝ }
 {
-    let diagram = diagram_at(file, at);
+    walk_past(file, effect_at(file, at), nodes, state)
+}
+
+// The walk of the action whose effect is at an offset.
+pub fn walk_past(file: &[u8], effect: usize, nodes: &[usize], state: &[u8]) -> Walked
+    ensures { λ r. ⌜ (r .cost ≡ walkPast (now (file .entry)) effect (now (nodes .entry)) (now (state .entry)) .cost) × (r .passed ≡ walkPast (now (file .entry)) effect (now (nodes .entry)) (now (state .entry)) .passed) × (r .cost ≤ maxWalk) × (r .passed ≤ maxPassed) ⌝ }
+{
+    let diagram = diagram_past(file, effect);
     let weight = diagram.incoming;
     let way = way_up(file, nodes, diagram.count, state);
     Walked {
@@ -50,18 +58,34 @@ pub fn walk_at(file: &[u8], at: usize, nodes: &[usize], state: &[u8]) -> Walked
 pub fn diagram_at(file: &[u8], at: usize) -> Diagram
     ensures { λ r. ⌜ (r .incoming ≡ wordAt (now (file .entry)) (incomingPlace (now (file .entry)) at)) × (r .count ≡ nodeCount (now (file .entry)) at) × (r .incoming ≤ maxWeight) × (r .count ≤ maxPassed) ⌝ }
 {
-    if file.len() < at {
+    diagram_past(file, effect_at(file, at))
+}
+
+// The same, of the action whose effect is at an offset.
+fn diagram_past(file: &[u8], effect: usize) -> Diagram
+    ensures { λ r. ⌜ (r .incoming ≡ wordAt (now (file .entry)) (pastPartial (now (file .entry)) effect)) × (r .count ≡ countPast (now (file .entry)) effect) × (r .incoming ≤ maxWeight) × (r .count ≤ maxPassed) ⌝ }
+{
+    if file.len() < effect {
         return Diagram {
             incoming: 0,
             count: 0,
         };
     }
-    let effect = at + length_at(file, at);
     let incoming = effect + length_at(file, effect);
     Diagram {
         incoming: word_at(file, incoming),
         count: byte_at(file, incoming + 2) as usize,
     }
+}
+
+// Where the effect of the action at an offset stands; past the end of the file the offset stays.
+fn effect_at(file: &[u8], at: usize) -> usize
+    ensures { λ r. ⌜ Alike (now (file .entry)) r (pastPartial (now (file .entry)) at) ⌝ }
+{
+    if file.len() < at {
+        return at;
+    }
+    at + length_at(file, at)
 }
 
 // The walk from node 1 up through a diagram with `count` nodes.

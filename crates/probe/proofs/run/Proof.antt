@@ -7,7 +7,7 @@ use lib.Seq.{length-take-le}
 use Rattle.facts.specs.Read.{accepted}
 use Rattle.probe.specs.Answers.{indexedAnswer}
 use Rattle.probe.specs.InPlace.{probeAt}
-use Rattle.probe.specs.IndexLaws.{starts, run-refused, run-long, run-within, run-fits}
+use Rattle.probe.specs.IndexLaws.{starts, run-refused, run-long, run-fits}
 use borrow.Author.Needs.{needs}
 use native.Mathlib.Omega.{arith}
 use Rattle.probe.proofs.run.Statement.{statement}
@@ -26,7 +26,7 @@ run-from-start-requires : tie.Need-run-from-start-requires
 run-from-start-requires c κs =
     let v = c .before .before .before in
     let s = starts _ (file-is v) in
-    (run-within _ (file-is v) (v .before .before .before .index .last .1 .0) (v .before .before .before .index .ensures .1) (few v), c .before .if1 .left, s .variables, s .fits)
+    (c .before .if1 .left, s .variables, s .fits)
 
 returns-2 : tie.Need-returns-2
 returns-2 c = sym (run-refused _ _ (sym (c .before .before .before .before .index .ensures .0) ∙ ap indexedAnswer (c .before .why .given .1)))

@@ -29,16 +29,16 @@ abbrev zeros : List ℕ
 zeros = replicate 57 0
 
 same : (c : tie.After-copy) → c .copy .last .1 .0 ≡ init (c .before .before .before .before .before .before)
-same c = copied (init (c .before .before .before .before .before .before)) (take (c .before .before .before .before .before .before .args .variables) zeros) (init-long (c .before .before .before .before .before .before) ∙ sym (length-take-le (c .before .before .before .before .before .before .args .variables) zeros (c .before .before .before .before .before .before .pre .2))) (c .copy .ensures .1)
+same c = copied (init (c .before .before .before .before .before .before)) (take (c .before .before .before .before .before .before .args .variables) zeros) (init-long (c .before .before .before .before .before .before) ∙ sym (length-take-le (c .before .before .before .before .before .before .args .variables) zeros (c .before .before .before .before .before .before .pre .1))) (c .copy .ensures .1)
 
 state-is : (c : tie.After-copy) → take (c .before .before .before .before .before .before .args .variables) (c .copy .last .1 .0 ++ drop (c .before .before .before .before .before .before .args .variables) zeros) ≡ init (c .before .before .before .before .before .before)
 state-is c = take-at (c .copy .last .1 .0) (drop (c .before .before .before .before .before .before .args .variables) zeros) (c .before .before .before .before .before .before .args .variables) (ap length (same c) ∙ init-long (c .before .before .before .before .before .before)) ∙ same c
 
 slice-aggregate-copy : tie.Need-slice-aggregate-copy
-slice-aggregate-copy c = sym (length-take-le (c .before .before .before .before .before .args .variables) _ (c .before .before .before .before .before .pre .2))
+slice-aggregate-copy c = sym (length-take-le (c .before .before .before .before .before .args .variables) _ (c .before .before .before .before .before .pre .1))
 
 copy-requires : tie.Need-copy-requires
-copy-requires c κs = omega (arith, init-long (c .before .before .before .before .before), length-take-le (c .before .before .before .before .before .args .variables) zeros (c .before .before .before .before .before .pre .2))
+copy-requires c κs = omega (arith, init-long (c .before .before .before .before .before), length-take-le (c .before .before .before .before .before .args .variables) zeros (c .before .before .before .before .before .pre .1))
 
 array-borrow-prefix-state-2 : tie.Need-array-borrow-prefix-state-2
 array-borrow-prefix-state-2 c = omega (arith, length-append (c .before .copy .last .1 .0) (drop (c .before .before .before .before .before .before .before .args .variables) zeros), ap length (same (c .before)), init-long (c .before .before .before .before .before .before .before))

@@ -42,9 +42,6 @@ small c = subst (CostMost 65535) (c .answer .given .1) (c .before .before .befor
 returns : tie.Need-returns Inv-loop μ-loop
 returns c = let l = c .before .before .before .loop in let a = c .before .before .before .before .before .before .before .before .args in sym (l .inv .3 ∙ run-missing (length (now (a .offsets))) (moveAt (now (a .file)) (now (a .offsets))) (partialAt (now (a .file)) (a .goal)) (now (a .list)) (l .state) (l .i) (l .sum) (c .before .before .loop-test .taken) (c .if1 .taken))
 
-apply-step-requires : tie.Need-apply-step-requires Inv-loop μ-loop
-apply-step-requires c κs = c .before .before .before .before .before .before .before .before .before .before .pre .0 (getD (now (c .before .before .before .before .before .before .before .before .before .before .args .list)) (c .before .before .before .before .before .loop .i) 0) (omega arith)
-
 same-length-2 : tie.Need-same-length-2 Inv-loop μ-loop
 same-length-2 c = c .before .before .before .state .given ∙ c .before .before .before .before .before .before .before .before .before .before .loop .inv .1
 
@@ -55,7 +52,7 @@ returns-2 c =
     sym (l .inv .3 ∙ run-blocked (length (now (a .offsets))) (moveAt (now (a .file)) (now (a .offsets))) (partialAt (now (a .file)) (a .goal)) (now (a .list)) (l .state) (l .i) (l .sum) (c .before .before .before .before .before .before .before .before .before .loop-test .taken) (c .before .before .before .before .before .before .before .if1 .left) (sym (did (c .before .before .before .before)) ∙ ap (λ (r : Applied). appliedMove r (after (c .before .before .before .before))) (c .enum-told .given .1)))
 
 add-sum : tie.Need-add-sum Inv-loop μ-loop
-add-sum c = omega (arith, c .before .before .before .before .before .before .before .before .before .before .before .before .before .before .before .before .pre .1, small (c .before))
+add-sum c = omega (arith, c .before .before .before .before .before .before .before .before .before .before .before .before .before .before .before .before .pre, small (c .before))
 
 loop-again : tie.Need-loop-again Inv-loop μ-loop
 loop-again c =
@@ -87,7 +84,7 @@ run-list-spec =
     returns
     (λ c. search needs)
     (λ c. omega arith)
-    apply-step-requires
+    (λ c κs. search needs)
     (λ c. search needs)
     (λ c. search needs)
     same-length-2

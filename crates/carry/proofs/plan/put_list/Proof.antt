@@ -56,7 +56,7 @@ loop-again c =
     let s = c .before .before .before .before .before .before .before .before .before .before .before .before .before .before .before .before .before .before .before .before .before .before .before .before .before .before in
     let l = c .before .before .before .before .before .before .before .before .before .before .before .before .before .before .before .before .loop in
     let e = entry (c .before .before .before .before .before .before .before .before .before .before) in
-    let after = c .before .before .apply-at .ensures in
+    let after = c .before .before .apply-at .ensures .0 in
     let place = c .before .before .before .before .length-at .ensures .0 in
     (omega (arith, c .before .before .before .before .before .before .before .before .before .before .before .before .before .before .before .loop-test .taken), entry-inside e after place (l .inv .1), entry-next e after place (l .inv .2) (s .pre .1) (c .before .before .before .before .before .before .before .put-action .ensures))
 

@@ -1,31 +1,9 @@
--- `facts::partial::holds_at` meets its contract: the values follow the map, and a cut map says nothing. Assumes nothing.
-use mathlib.Core.Path.{_≡_, sym, ap, _∙_}
-use denote.Ref.{now}
-use Rattle.facts.specs.Read.{accepted}
-use Rattle.facts.specs.Answers.{fieldAnswer}
-use Rattle.facts.specs.Partial.{Partial, holds}
-use Rattle.facts.specs.PartialLaws.{holds-empty}
-use Rattle.facts.specs.Fields.{readNumber}
-use Rattle.facts.specs.FieldLaws.{number-read}
-use Rattle.facts.specs.InPlaceLaws.{standing-read, empty-read}
+-- `facts::partial::holds_at` meets its contract: it says what `held_at` says. Assumes nothing.
+use mathlib.Core.Path.{sym, ap, _∙_}
+use Rattle.facts.specs.Answers.{heldAnswer}
 use borrow.Author.Needs.{needs}
-use native.Mathlib.Omega.{arith}
 use Rattle.facts.proofs.partial.holds_at.Statement.{statement}
 use Rattle.facts.proofs.partial.holds_at.Tie as tie
-
-map-is : (c : tie.After-map) → readNumber (now (c .before .before .before .before .before .args .file)) 8 (c .before .before .before .before .before .args .at) ≡ accepted (c .map .given .0 .0)
-map-is c = sym (c .before .before .read-map .ensures) ∙ ap fieldAnswer (c .map .given .1)
-
-returns : tie.Need-returns
-returns c =
-    let a = c .before .before .before .before .before .args in
-    sym (ap (λ (p : Partial). holds p (now (a .state))) (empty-read (now (a .file)) (a .at) (sym (c .before .before .read-map .ensures) ∙ ap fieldAnswer (c .enum-told .given .1))) ∙ holds-empty (now (a .state)))
-
-returns-2 : tie.Need-returns-2
-returns-2 c =
-    let m = c .before .before in
-    let a = m .before .before .before .before .before .args in
-    c .values-hold .ensures ∙ sym (ap (λ (p : Partial). holds p (now (a .state))) (standing-read (now (a .file)) (a .at) (map-is m)))
 
 pub holds-at-spec : {M : Type 1} → statement M
 holds-at-spec =
@@ -34,7 +12,5 @@ holds-at-spec =
     (λ c κs. search needs)
     (λ c. search needs)
     (λ c. search needs)
-    (λ c. omega (arith, number-read _ 8 _ (map-is (c .before)) .fits))
-    (λ c κs. search needs)
-    returns
-    returns-2)
+    (λ c. sym (ap heldAnswer (c .enum-told .given .1)) ∙ c .before .before .held-at .ensures .0)
+    (λ c. sym (ap heldAnswer (c .enum-told2 .given .1)) ∙ c .before .before .held-at .ensures .0))

@@ -8,8 +8,8 @@ use lib.ListN.{length, getD}
 use Rattle.facts.specs.Partial.{partialAt}
 use Rattle.facts.specs.declared.Applied.{Applied}
 use Rattle.facts.specs.Answers.{appliedMove, CostMost}
-use Rattle.taskfile.specs.WalkInPlace.{moveAt, passesAt, maxPassed, maxWalk}
-use Rattle.taskfile.specs.MoveInPlaceLaws.{atCost, moves, passes, move-length, Running, run-long, run-starts, running-missing, running-blocked, running-next, running-met, running-unmet}
+use Rattle.taskfile.specs.WalkInPlace.{atCost, moveAt, passesAt, maxPassed, maxWalk}
+use Rattle.taskfile.specs.MoveInPlaceLaws.{moves, move-length, Running, run-long, run-starts, running-missing, running-blocked, running-next, running-met, running-unmet}
 use borrow.Author.Needs.{needs}
 use native.Mathlib.Omega.{arith}
 use Rattle.taskfile.proofs.action.run_list.Statement.{statement}
@@ -36,8 +36,8 @@ did c =
     let l = c .before .before .before .before .before .before .before .before .loop in
     let first = c .before .before .before .before .offset-within .ensures in
     let e = c .apply-action .ensures in (
-      moves (now (a .file)) (now (a .action-at)) (now (a .first-node)) (now (a .node-at)) (getD (now (a .list)) (l .i) 0) (l .state) first (e .0),
-      passes (now (a .file)) (now (a .action-at)) (now (a .first-node)) (now (a .node-at)) (getD (now (a .list)) (l .i) 0) (l .state) first (e .0) (e .1 .0),
+      moves (now (a .file)) (now (a .action-at)) (now (a .first-node)) (now (a .node-at)) (getD (now (a .list)) (l .i) 0) (l .state) (λ w. w .cost) first (e .0),
+      moves (now (a .file)) (now (a .action-at)) (now (a .first-node)) (now (a .node-at)) (getD (now (a .list)) (l .i) 0) (l .state) (λ w. w .passed) first (e .1 .0),
     )
 
 -- it costs little

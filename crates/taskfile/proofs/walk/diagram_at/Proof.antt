@@ -1,41 +1,17 @@
--- `taskfile::walk::diagram_at` meets its contract: the incoming weight and the node count stand behind the two partial states. Assumes nothing.
-use mathlib.Core.Path.{sym}
-use Prim.Native.Nat.{zero-le}
-use mathlib.Core.List.{[]}
+-- `taskfile::walk::diagram_at` meets its contract: behind the precondition stands the effect. Assumes nothing.
+use mathlib.Core.Path.{_∙_}
 use denote.Ref.{now}
-use Rattle.facts.specs.InPlaceLaws.{past-is}
-use Rattle.taskfile.specs.WalkInPlaceLaws.{count-same, incoming-same, count-none, weight-none}
+use Rattle.taskfile.specs.WalkInPlaceLaws.{weight-behind, count-behind}
 use borrow.Author.Needs.{needs}
 use Rattle.taskfile.proofs.walk.diagram_at.Statement.{statement}
 use Rattle.taskfile.proofs.walk.diagram_at.Tie as tie
 
 returns : tie.Need-returns
 returns c =
-    let a = c .before .before .args in
-    let past = c .if1 .taken in
-    (sym (weight-none (now (a .file)) (a .at) past), sym (count-none (now (a .file)) (a .at) past), zero-le, zero-le)
-
-returns-2 : tie.Need-returns-2
-returns-2 c =
-    let a = c .before .before .before .before .before .before .args in
-    let f = now (a .file) in
-    let e = past-is f (a .at) (c .before .before .before .length-at .ensures .0) in
-    let i = past-is f _ (c .before .before .length-at2 .ensures .0) in
-    let w = c .before .word-at .ensures in
-    let n = c .byte-at .ensures in
-    (incoming-same f (a .at) [] [] e i n (w .0), count-same f (a .at) [] [] e i n, w .1, search needs)
+    let a = c .before .before .before .args in
+    let e = c .before .effect-at .ensures in
+    let d = c .diagram-past .ensures in
+    (d .0 ∙ weight-behind (now (a .file)) (a .at) e, d .1 ∙ count-behind (now (a .file)) (a .at) e, d .2, d .3)
 
 pub diagram-at-spec : {M : Type 1} → statement M
-diagram-at-spec =
-    tie.close
-    (tie.spec
-    returns
-    (λ c κs. search needs)
-    (λ c. search needs)
-    (λ c κs. search needs)
-    (λ c. search needs)
-    (λ c κs. search needs)
-    (λ c. search needs)
-    (λ c κs. search needs)
-    (λ c. search needs)
-    returns-2)
+diagram-at-spec = tie.close (tie.spec (λ c κs. search needs) (λ c κs. search needs) returns)

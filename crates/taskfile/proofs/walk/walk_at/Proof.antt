@@ -1,22 +1,18 @@
--- `taskfile::walk::walk_at` meets its contract: the incoming edge and those of at most 255 nodes weigh two bytes each. Assumes nothing.
+-- `taskfile::walk::walk_at` meets its contract: behind the precondition stands the effect. Assumes nothing.
+use mathlib.Core.Path.{ap, _∙_}
 use denote.Ref.{now}
-use Rattle.taskfile.specs.WalkInPlaceLaws.{cost-is, passed-is}
+use Rattle.taskfile.specs.Task.{Walk}
+use Rattle.taskfile.specs.WalkInPlaceLaws.{walk-behind}
 use borrow.Author.Needs.{needs}
-use native.Mathlib.Omega.{arith}
 use Rattle.taskfile.proofs.walk.walk_at.Statement.{statement}
 use Rattle.taskfile.proofs.walk.walk_at.Tie as tie
 
 returns : tie.Need-returns
 returns c =
-    let a = c .before .before .before .before .before .before .args in
-    let f = now (a .file) in
-    let d = c .before .before .diagram-at .ensures in
-    let y = c .before .way-up .ensures in (
-      cost-is f (a .at) (now (a .nodes)) (now (a .state)) (d .0) (d .1) (y .0),
-      passed-is f (a .at) (now (a .nodes)) (now (a .state)) (d .0) (d .1) (y .1),
-      omega (arith, d .2, d .3, y .2),
-      omega (arith, d .3, y .3),
-    )
+    let a = c .before .before .before .before .before .args in
+    let same = walk-behind (now (a .file)) (a .at) (c .before .effect-at .ensures) (now (a .nodes)) (now (a .state)) in
+    let w = c .walk-past .ensures in
+    (w .0 ∙ ap (λ (x : Walk). x .cost) same, w .1 ∙ ap (λ (x : Walk). x .passed) same, w .2, w .3)
 
 pub walk-at-spec : {M : Type 1} → statement M
-walk-at-spec = tie.close (tie.spec (λ c κs. search needs) (λ c κs. search needs) (λ c. search needs) returns)
+walk-at-spec = tie.close (tie.spec (λ c κs. search needs) (λ c κs. search needs) returns)

@@ -1,4 +1,4 @@
--- `taskfile::diagram::edges_end` meets its contract: what is left answers what the whole answers. Assumes nothing.
+-- `taskfile::diagram::edges_cut` meets its contract: what is left answers what the whole answers. Assumes nothing.
 use Prim.Native.Nat.{_-_, _≤_}
 use mathlib.Core.Path.{_≡_, refl, sym, ap, _∙_}
 use lib.ListN.{drop}
@@ -11,8 +11,8 @@ use Rattle.facts.specs.EachLaws.{each-on, each-stops, each-done}
 use Rattle.taskfile.specs.TaskFile.{readEdge, readEdges}
 use borrow.Author.Needs.{needs}
 use native.Mathlib.Omega.{arith}
-use Rattle.taskfile.proofs.diagram.edges_end.Statement.{statement}
-use Rattle.taskfile.proofs.diagram.edges_end.Tie as tie
+use Rattle.taskfile.proofs.diagram.edges_cut.Statement.{statement}
+use Rattle.taskfile.proofs.diagram.edges_cut.Tie as tie
 
 abbrev Inv-loop : tie.InvT-loop
 Inv-loop file from m i count at₀ d₀ at d = (d ≤ count) × (nextOf (readEdges file m i count from) ≡ nextOf (each (λ x. readEdge file m i) (drop d (upFrom 0 count)) at))
@@ -46,8 +46,8 @@ returns-2 c =
     let a = c .before .before .before .args in
     sym (l .inv .1 ∙ each-done (λ x. readEdge (now (a .file)) (a .m) (a .i)) (upFrom 0 (a .count)) 0 (l .d) (l .at) (omega (arith, length-upFrom 0 (a .count))))
 
-pub edges-end-spec : {M : Type 1} → statement M
-edges-end-spec =
+pub edges-cut-spec : {M : Type 1} → statement M
+edges-cut-spec =
     tie.close
     (tie.spec
     Inv-loop
