@@ -41,23 +41,27 @@ numbers-set {numbers} {old} {new} v d e h v-lt d-lt here other =
 
 -- ---- the numbers of a state, by how many of its variables are read
 
-start-here : (s : List ℕ) (v : ℕ) → v < length s → startNumber (take (suc v) s) v (getD s v 0) ≡ exact 0
+pub start-here : (s : List ℕ) (v : ℕ) → v < length s → startNumber (take (suc v) s) v (getD s v 0) ≡ exact 0
 start-here [] v l = absurd (omega arith)
 start-here (x ∷ s) zero l = rw (eq-eqb x x refl, startNumber)
 start-here (x ∷ s) (suc v) l = start-here s v (omega arith)
 
-start-other : (s : List ℕ) (v w d : ℕ) → v < length s → (w ≡ v → d ≢ getD s v 0) → startNumber (take v s) w d ≡ startNumber (take (suc v) s) w d
+pub start-other : (s : List ℕ) (v w d : ℕ) → v < length s → (w ≡ v → d ≢ getD s v 0) → startNumber (take v s) w d ≡ startNumber (take (suc v) s) w d
 start-other [] v w d l other = absurd (omega arith)
 start-other (x ∷ s) zero zero d l other = rw (ne-eqb x d (λ e. other refl (sym e)), startNumber)
 start-other (x ∷ s) zero (suc w) d l other = refl
 start-other (x ∷ s) (suc v) zero d l other = refl
 start-other (x ∷ s) (suc v) (suc w) d l other = start-other s v w d (omega arith) (λ e. other (ap suc e))
 
-start-below : (s : List ℕ) (n v d : ℕ) → v < n → startNumber (take n s) v d ≡ startNumber s v d
+pub start-below : (s : List ℕ) (n v d : ℕ) → v < n → startNumber (take n s) v d ≡ startNumber s v d
 start-below s zero v d l = absurd (omega arith)
 start-below [] (suc n) v d l = refl
 start-below (x ∷ s) (suc n) zero d l = refl
 start-below (x ∷ s) (suc n) (suc v) d l = start-below s n v d (omega arith)
+
+-- a state's own facts
+pub start-own : (s : List ℕ) (v : ℕ) → v < length s → startNumber s v (getD s v 0) ≡ exact 0
+start-own s v l = sym (start-below s (suc v) v (getD s v 0) (omega arith)) ∙ start-here s v l
 
 -- ---- the array, by how many variables of a state are read
 

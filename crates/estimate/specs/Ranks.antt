@@ -31,6 +31,10 @@ pub record Roomy (sizes : List ℕ) (count : ℕ) : Type 0 where
 pub record HasRanks (ranks : List ℕ) (of : ℕ → ℕ → Number) : Type 0 where
   pub at : (v d : ℕ) → Room (length ranks) v d → rankNumber ranks v d ≡ of v d
 
+-- no number is set yet
+pub record Unset (ranks : List ℕ) : Type 0 where
+  pub at : (v d : ℕ) → rankNumber ranks v d ≡ never
+
 -- ---- what is offered
 
 -- the numbers after an offer

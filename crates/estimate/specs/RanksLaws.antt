@@ -5,19 +5,19 @@ use mathlib.Core.Bool.{Bool, true, false, _&&_, _||_, false≢true, true≢false
 use Prim.Native.Nat.{ℕ, zero, suc, _+_, _≤_, _<_, min}
 use native.Mathlib.Nat.{lt-of-not-le}
 use native.Mathlib.Decide.{decLe, ℕ-discrete}
+use native.Mathlib.Numerals.{add-one}
 use native.Mathlib.Omega.{arith}
 use mathlib.Core.List.{List, [], _∷_}
 use lib.Dec.{ltb, eqb}
-use lib.ListN.{length, getD, set, length-set, List·getD-eq-default}
+use lib.ListN.{length, getD, take, set, replicate, length-set, List·getD-eq-default}
 use lib.Seq.{getD-set-same, getD-set-other}
 use borrow.Author.Tests.{lt-ltb, le-ltb, eq-eqb, eqb-true}
-use Rattle.estimate.specs.declared.Est.{Est}
-use Rattle.estimate.specs.declared.Est.the-variants.{Never}
-use Rattle.estimate.specs.Number.{Number, never, number, lesser, same, rank, ranked}
+use Rattle.estimate.specs.Number.{Number, exact, never, lesser, same, rank, ranked}
 use Rattle.estimate.specs.NumberLaws.{lesser-never, ranked-min, same-refl, same-true}
-use Rattle.estimate.specs.Facts.{mostVariables, mostValues, mostFacts, factIndex, HasNumbers}
+use Rattle.estimate.specs.Facts.{mostVariables, mostValues, factIndex, startNumber}
+use Rattle.estimate.specs.FactsLaws.{start-here, start-other, start-below}
 use Rattle.estimate.specs.ListedLaws.{fact-variable}
-use Rattle.estimate.specs.Ranks.{rankNumber, Room, HasRanks, offeredTo, afterFact, Taken, FactTaken, RowTaken, RowsTaken, TakenOver}
+use Rattle.estimate.specs.Ranks.{rankNumber, Room, HasRanks, Unset, offeredTo, afterFact, Taken, FactTaken, RowTaken, RowsTaken, TakenOver}
 
 -- ---- reading a number
 
@@ -76,28 +76,54 @@ module _ (ranks : List ℕ) (u x r : ℕ) (room : Room (length ranks) u x) where
 
 -- ---- the start
 
--- the first i ranks are those of the numbers in an array
-pub record Copied (numbers : List Est) (ranks : List ℕ) (i : ℕ) : Type 0 where
-  pub at : (k : ℕ) → k < i → k < length ranks → ranked (getD ranks k (rank never)) ≡ number (getD numbers k Never)
-
-pub copied-none : (numbers : List Est) (ranks : List ℕ) → Copied numbers ranks 0
-copied-none numbers ranks = record { at = λ k l. absurd (omega arith) }
-
-pub copied-more : {numbers : List Est} {ranks : List ℕ} {i : ℕ} (r : ℕ) → Copied numbers ranks i → i < length ranks → ranked r ≡ number (getD numbers i Never)
-    → Copied numbers (set ranks i r) (i + 1)
-copied-more {numbers} {ranks} {i} r h l e = record { at = λ k low fits. go k low (omega (arith, length-set ranks i r)) (ℕ-discrete k i) }
+-- ranks that are all never's
+pub unset-never : (n : ℕ) → Unset (replicate n (rank never))
+unset-never n = record {
+  at = λ v d. elim (decLe mostVariables v) [
+    | yes past ↦ rank-variable (replicate n (rank never)) v d past
+    | no low ↦ elim (decLe mostValues d) [
+      | yes past ↦ rank-value (replicate n (rank never)) v d past
+      | no few ↦ rank-here (replicate n (rank never)) v d (lt-of-not-le low) (lt-of-not-le few) ∙ ap ranked (getD-fill n (factIndex v d) (rank never))
+    ]
+  ];
+}
   where
-    go : (k : ℕ) → k < i + 1 → k < length ranks → Dec (k ≡ i) → ranked (getD (set ranks i r) k (rank never)) ≡ number (getD numbers k Never)
-    go k low fits (yes q) = rw q (ap ranked (getD-set-same ranks i r (rank never) l) ∙ e)
-    go k low fits (no q) = ap ranked (getD-set-other ranks i k r (rank never) q) ∙ h .at k (omega arith) fits
+    getD-fill : (n k x : ℕ) → getD (replicate n x) k x ≡ x
+    getD-fill zero k x = refl
+    getD-fill (suc n) zero x = refl
+    getD-fill (suc n) (suc k) x = getD-fill n k x
 
--- as many as there is room for
-pub copied-all : {numbers : List Est} {ranks : List ℕ} {i : ℕ} {of : ℕ → ℕ → Number} → Copied numbers ranks i → min (length ranks) mostFacts ≤ i → HasNumbers numbers of → HasRanks ranks of
-copied-all {numbers} {ranks} {i} {of} h l n =
-    record {
-      at = λ v d r.
-          rank-here ranks v d (r .variable) (r .value) ∙ h .at (factIndex v d) (omega (arith, r .variable, r .value, r .place)) (r .place) ∙ n .at v d (r .variable) (r .value);
-    }
+-- no variable of the state is read
+pub started-none : {ranks : List ℕ} → Unset ranks → HasRanks ranks (startNumber [])
+started-none u = record { at = λ v d r. u .at v d }
+
+module _ {ranks : List ℕ} (s : List ℕ) (v : ℕ) (h : HasRanks ranks (startNumber (take v s))) where
+  -- the fact of the next variable is stored
+  pub started-stored : {k : ℕ} → k ≡ factIndex v (getD s v 0) → v < length s → Room (length ranks) v (getD s v 0) → (r : ℕ) → ranked r ≡ exact 0 → HasRanks (set ranks k r) (startNumber (take (v + 1) s))
+  started-stored {k} q l room r e = rw (q, add-one v) (record { at = λ w d there. go w d there (ℕ-discrete w v) (ℕ-discrete d (getD s v 0)) })
+    where
+      other : (w d : ℕ) → Room (length (set ranks (factIndex v (getD s v 0)) r)) w d → (w ≡ v → d ≢ getD s v 0)
+          → rankNumber (set ranks (factIndex v (getD s v 0)) r) w d ≡ startNumber (take (suc v) s) w d
+      other w d there apart =
+          stored-other ranks v (getD s v 0) r room w d apart
+          ∙ h .at w d (record { variable = there .variable; value = there .value; place = omega (arith, there .place, length-set ranks (factIndex v (getD s v 0)) r) })
+          ∙ start-other s v w d l apart
+
+      go : (w d : ℕ) → Room (length (set ranks (factIndex v (getD s v 0)) r)) w d → Dec (w ≡ v) → Dec (d ≡ getD s v 0)
+          → rankNumber (set ranks (factIndex v (getD s v 0)) r) w d ≡ startNumber (take (suc v) s) w d
+      go w d there (yes p) (yes c) = rw (p, c) (stored-here ranks v (getD s v 0) r room ∙ e ∙ sym (start-here s v l))
+      go w d there (yes p) (no c) = other w d there (λ z. c)
+      go w d there (no p) c = other w d there (λ z. absurd (p z))
+
+  -- there is no room for it
+  pub started-passed : v < length s → (Room (length ranks) v (getD s v 0) → ⊥) → HasRanks ranks (startNumber (take (v + 1) s))
+  started-passed l none = rw (add-one v) (record {
+    at = λ w d r. h .at w d r ∙ start-other s v w d l (λ p q. none (subst (λ (w : ℕ). Room (length ranks) w (getD s v 0)) p (subst (λ (c : ℕ). Room (length ranks) w c) q r)));
+  })
+
+  -- all variables for which there is room are read
+  pub started-full : mostVariables ≤ v → HasRanks ranks (startNumber s)
+  started-full l = record { at = λ w d r. h .at w d r ∙ start-below s v w d (omega (arith, r .variable)) }
 
 -- ---- an offer to one fact
 

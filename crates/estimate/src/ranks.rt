@@ -1,7 +1,6 @@
 // The numbers of all facts, lent as ranks: a number's rank is how many numbers are less than it. Ranks stand at variable times 66 plus value, as in
 // the array of `start`. Past the end of a slice nothing is read or set.
 use crate::Est;
-use crate::FACTS;
 use crate::LARGEST;
 use crate::VALUES;
 use crate::VARIABLES;
@@ -9,12 +8,12 @@ ghost use mathlib.Core.Path.{_≡_};
 ghost use Prim.Native.Nat.{min};
 ghost use Rattle.estimate.specs.Number.{number, same, ranked};
 ghost use Rattle.estimate.specs.Facts.{startNumber};
-ghost use Rattle.estimate.specs.Ranks.{rankNumber, HasRanks, FactTaken, RowTaken, TakenOver};
+ghost use Rattle.estimate.specs.Ranks.{rankNumber, HasRanks, Unset, FactTaken, RowTaken, TakenOver};
 
 // The ranks of over and of never.
 const OVER: u64 = 4294967296;
 
-const NEVER: u64 = 4294967297;
+pub const NEVER: u64 = 4294967297;
 
 // The rank of a number.
 pub fn rank(e: Est) -> u64
@@ -80,14 +79,22 @@ pub fn number_of(ranks: &[u64], v: usize, d: usize) -> Est
     ranked(ranks[i])
 }
 
-// Sets the ranks of the numbers with which the estimate from a state starts: 0 for the facts of the state, else never.
+// Sets the ranks of the numbers with which the estimate from a state starts, where none is set yet: 0 for the facts of the state, else never.
 pub fn start_ranks(state: &[u8], ranks: &mut [u64])
-    ensures { λ r. ⌜ HasRanks (now (ranks .exit)) (startNumber (now (state .entry))) ⌝ }
+    ensures { λ r. ⌜ (Unset (now (ranks .entry)) → HasRanks (now (ranks .exit)) (startNumber (now (state .entry)))) ⌝ }
 {
     let numbers = crate::start(state);
-    for i in 0..FACTS {
-        if ranks.len() <= i {
+    for v in 0..VARIABLES {
+        if state.len() <= v {
             return;
+        }
+        let d = state[v] as usize;
+        if VALUES <= d {
+            continue;
+        }
+        let i = v * VALUES + d;
+        if ranks.len() <= i {
+            continue;
         }
         ranks[i] = rank(numbers[i]);
     }

@@ -16,7 +16,7 @@ pub fn settle(file: &[u8], sizes: &[u8], goal: usize, offsets: &[usize], state: 
     requires { ⌜ Ready (now file) (now sizes) goal (now offsets) ⌝ }
     ensures { λ r. ⌜ number r ≡ additive (now (sizes .entry)) (map (achieverAt (now (file .entry))) (now (offsets .entry))) (partialAt (now (file .entry)) goal) (now (state .entry)) ⌝ }
 {
-    let mut old = [0; estimate::FACTS];
+    let mut old = [estimate::ranks::NEVER; estimate::FACTS];
     estimate::ranks::start_ranks(state, &mut old);
     let mut new = old; // the one copy; a round changes the new numbers in place
     loop {

@@ -26,7 +26,7 @@ pub fn settle(
     requires { ⌜ Estimable (now file) (now sizes) goal (now «action_at») (now «first_node») (now «node_at») ⌝ }
     ensures { λ r. ⌜ number r ≡ additive (now (sizes .entry)) (achieversIn (now (file .entry)) (now (sizes .entry)) (now («action_at» .entry)) (now («first_node» .entry)) (now («node_at» .entry)) 0 (length (now («action_at» .entry)))) (partialAt (now (file .entry)) goal) (now (state .entry)) ⌝ }
 {
-    let mut old = [0; estimate::FACTS];
+    let mut old = [estimate::ranks::NEVER; estimate::FACTS];
     estimate::ranks::start_ranks(state, &mut old);
     let mut new = old; // the one copy; a round changes the new numbers in place
     loop {

@@ -8,6 +8,7 @@ use Rattle.facts.specs.Lists.{total}
 use Rattle.estimate.specs.Number.{rank}
 use Rattle.estimate.specs.Facts.{mostFacts}
 use Rattle.estimate.specs.Ranks.{rankList}
+use Rattle.estimate.specs.RanksLaws.{unset-never}
 use Rattle.estimate.specs.LoopLaws.{roomy-same, Between, between-start, between-on, between-falls, between-end}
 use Rattle.probe.specs.Estimate.{achieverAt}
 use Rattle.probe.proofs.rounds.settle.Statement.{statement}
@@ -22,7 +23,7 @@ abbrev μ-loop : tie.MeasureT-loop
 loop-holds : tie.Need-loop-holds Inv-loop μ-loop
 loop-holds c =
     let ready = c .before .before .before .before .before .before .before .pre in
-    (c .old2 .given, c .old2 .given, between-start (roomy-same (ready .room) (c .old2 .given)) (c .before .start-ranks .ensures))
+    (c .old2 .given, c .old2 .given, between-start (roomy-same (ready .room) (c .old2 .given)) (c .before .start-ranks .ensures (unset-never mostFacts)))
 
 loop-less : tie.Need-loop-less Inv-loop μ-loop
 loop-less c =

@@ -7,6 +7,7 @@ use Rattle.facts.specs.Lists.{total}
 use Rattle.estimate.specs.Number.{rank}
 use Rattle.estimate.specs.Facts.{mostFacts}
 use Rattle.estimate.specs.Ranks.{rankList}
+use Rattle.estimate.specs.RanksLaws.{unset-never}
 use Rattle.estimate.specs.LoopLaws.{roomy-same, Between, between-start, between-on, between-falls, between-end}
 use Rattle.relaxation.specs.EstimateInPlace.{achieversIn}
 use Rattle.relaxation.specs.EstimateInPlaceLaws.{achievers-wf}
@@ -23,7 +24,7 @@ abbrev μ-loop : tie.MeasureT-loop
 loop-holds : tie.Need-loop-holds Inv-loop μ-loop
 loop-holds c =
     let ready = c .before .before .before .before .before .before .before .before .before .pre in
-    (c .old2 .given, c .old2 .given, between-start (roomy-same (ready .room) (c .old2 .given)) (c .before .start-ranks .ensures))
+    (c .old2 .given, c .old2 .given, between-start (roomy-same (ready .room) (c .old2 .given)) (c .before .start-ranks .ensures (unset-never mostFacts)))
 
 loop-less : tie.Need-loop-less Inv-loop μ-loop
 loop-less c =
