@@ -8,16 +8,15 @@ use mathlib.Core.List.{List, [], _∷_, append-nil}
 use lib.ListN.{length, getD, take, drop, set, List·getD-eq-default}
 use lib.Seq.{take-all}
 use borrow.Rule.Slice.PartMut.{putMid}
-use Rattle.facts.specs.Lists.{total, At, here, there}
+use Rattle.facts.specs.Lists.{total, At}
 use Rattle.facts.specs.ListLaws.{at-length}
 use Rattle.facts.specs.State.{Inside}
 use Rattle.facts.specs.Write.{Wrote}
 use Rattle.taskfile.specs.Task.{Edge, Node, Action, edgeAt, WfAction}
-use Rattle.taskfile.specs.TaskFile.{edgeBytes}
 use Rattle.taskfile.specs.WalkInPlace.{nodeCount}
 use Rattle.taskfile.specs.WalkLaws.{edge-there, edge-wf}
 use Rattle.compilation.specs.Compile.{edgeCount}
-use Rattle.taskfile.specs.PartsInPlace.{edgeIn, edgesIn, nodeIn, nodesIn, actionIn}
+use Rattle.taskfile.specs.PartsInPlace.{nodeIn, nodesIn, actionIn}
 use Rattle.taskfile.specs.PartsInPlaceLaws.{edges-at, nodes-long, nodes-at}
 use Rattle.compile.specs.PutLaws.{Cut, Going, going-start, going-room, going-more, going-end}
 use Rattle.compile.specs.InPlaceLaws.{edges-long}

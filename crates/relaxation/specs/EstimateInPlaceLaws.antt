@@ -6,12 +6,12 @@ use native.Mathlib.Omega.{arith}
 use mathlib.Core.List.{List, [], _∷_, map}
 use lib.ListN.{length, getD, drop, set, replicate}
 use borrow.Author.Tests.{le-leb}
-use Rattle.facts.specs.Lists.{upFrom, All, At}
+use Rattle.facts.specs.Lists.{upFrom, All}
 use Rattle.facts.specs.ListLaws.{all-at}
 use Rattle.facts.specs.Partial.{partialAt, pastPartial}
 use Rattle.facts.specs.Fields.{wordAt}
 use Rattle.estimate.specs.Number.{Number, exact, never, largest, capped, sum, lesser, ranked}
-use Rattle.estimate.specs.Additive.{sumFrom, Achiever, offerOf, offersBy, WfAchiever}
+use Rattle.estimate.specs.Additive.{sumFrom, Offer, offerOf, offersBy, WfAchiever}
 use Rattle.estimate.specs.Ranks.{rankNumber, HasRanks, afterOffer, afterOffers}
 use Rattle.estimate.specs.OfferLaws.{offer-same, Heard, heard-none, heard-more, heard-all}
 use Rattle.taskfile.specs.Task.{Edge, Action, maxWeight, WfAction}
@@ -20,7 +20,7 @@ use Rattle.taskfile.specs.PartsInPlace.{nodeIn, actionIn}
 use Rattle.relaxation.specs.Least.{leastOf}
 use Rattle.relaxation.specs.LeastLaws.{map-agree, least-taken}
 use Rattle.relaxation.specs.Pass.{byEdge, leastAt, Filled}
-use Rattle.relaxation.specs.PassLaws.{Above, edges-above, pass-agrees}
+use Rattle.relaxation.specs.PassLaws.{edges-above, pass-agrees}
 use Rattle.relaxation.specs.PassInPlaceLaws.{edge-there, node-there, table-start, table-next, table-end}
 use Rattle.relaxation.specs.Estimate.{actionAchiever}
 use Rattle.relaxation.specs.EstimatePass.{numberPass, leastCostByPass}
@@ -133,31 +133,39 @@ pub action-offered : (f sizes : List ℕ) (at : ℕ) (offsets : List ℕ) (old o
 action-offered f sizes at offsets old of e o h = offer-same of (ap (partialAt f) (sym e)) (sym o) h
 
 module _ (f sizes actions firsts nodes : List ℕ) (old : ℕ → ℕ → Number) where
+  -- `count` of them from number a on, and all
+  abbrev from : ℕ → ℕ → List Offer
+  from a count = offersBy (length sizes) old (achieversIn f sizes actions firsts nodes a count)
+
+  abbrev all : List Offer
+  all = from 0 (length actions)
+
   -- the offers of the actions from number a on are left
   abbrev pub HeardFrom : ℕ → (ℕ → ℕ → Number) → List ℕ → Type 0
-  HeardFrom a whole ranks = Heard (offersBy (length sizes) old (achieversIn f sizes actions firsts nodes a (length actions - a))) whole ranks
+  HeardFrom a whole ranks = Heard (from a (length actions - a)) whole ranks
 
   -- before the first action
-  pub actions-none : (ranks : List ℕ) → HeardFrom 0 (afterOffers (offersBy (length sizes) old (achieversIn f sizes actions firsts nodes 0 (length actions))) (rankNumber ranks)) ranks
+  pub actions-none : (ranks : List ℕ) → HeardFrom 0 (afterOffers all (rankNumber ranks)) ranks
   actions-none ranks =
-      let all : length actions ≡ length actions - 0 = omega arith in
-      subst (λ (count : ℕ). Heard (offersBy (length sizes) old (achieversIn f sizes actions firsts nodes 0 count)) (afterOffers (offersBy (length sizes) old (achieversIn f sizes actions firsts nodes 0 (length actions))) (rankNumber ranks)) ranks) all
-      (heard-none (offersBy (length sizes) old (achieversIn f sizes actions firsts nodes 0 (length actions))) ranks)
+      let same : length actions ≡ length actions - 0 = omega arith in
+      subst (λ (count : ℕ). Heard (from 0 count) (afterOffers all (rankNumber ranks)) ranks) same (heard-none all ranks)
 
   -- one action more
   pub actions-more : (a : ℕ) (whole : ℕ → ℕ → Number) {ranks next own : List ℕ} → HeardFrom a whole ranks → a < length actions → length next ≡ length ranks → own ≡ drop (getD firsts a 0) nodes
       → HasRanks next (afterOffer (offerOf (length sizes) old (achieverIn f sizes (getD actions a 0) own)) (rankNumber ranks)) → HeardFrom (a + 1) whole next
   actions-more a whole {ranks} {next} g l same own-is h =
       let more : length actions - a ≡ suc (length actions - (a + 1)) = omega arith in
-      let split = ap (λ (count : ℕ). achieversIn f sizes actions firsts nodes a count) more ∙ ap (λ (b : ℕ). achieverIn f sizes (getD actions a 0) (drop (getD firsts a 0) nodes) ∷ achieversIn f sizes actions firsts nodes b (length actions - (a + 1))) (sym (add-one a)) in
-      heard-more (subst (λ (achievers : List Achiever). Heard (offersBy (length sizes) old achievers) whole ranks) split g) same
+      let first = offerOf (length sizes) old (achieverIn f sizes (getD actions a 0) (drop (getD firsts a 0) nodes)) in
+      let split : from a (length actions - a) ≡ first ∷ from (a + 1) (length actions - (a + 1)) =
+      ap (from a) more ∙ ap (λ (b : ℕ). first ∷ from b (length actions - (a + 1))) (sym (add-one a)) in
+      heard-more (subst (λ (offers : List Offer). Heard offers whole ranks) split g) same
       (subst (λ (os : List ℕ). HasRanks next (afterOffer (offerOf (length sizes) old (achieverIn f sizes (getD actions a 0) os)) (rankNumber ranks))) own-is h)
 
   -- past the last action
   pub actions-all : (a : ℕ) (whole : ℕ → ℕ → Number) {ranks : List ℕ} → HeardFrom a whole ranks → length actions ≤ a → HasRanks ranks whole
   actions-all a whole {ranks} g l =
       let none : length actions - a ≡ 0 = omega arith in
-      heard-all (subst (λ (count : ℕ). Heard (offersBy (length sizes) old (achieversIn f sizes actions firsts nodes a count)) whole ranks) none g)
+      heard-all (subst (λ (count : ℕ). Heard (from a count) whole ranks) none g)
 
 -- all are well-formed
 achievers-from : (f sizes actions firsts nodes : List ℕ) (a count : ℕ)

@@ -1,6 +1,5 @@
 -- `task::cost` meets its contract: the file, and then the action and the state. Assumes nothing.
-use mathlib.Core.Path.{_≡_, sym, ap, _∙_}
-use denote.Ref.{now}
+use mathlib.Core.Path.{sym, ap, _∙_}
 use Rattle.facts.specs.Answers.{checkedAnswer}
 use Rattle.facts.specs.State.{checkState}
 use Rattle.taskfile.specs.Task.{cost}

@@ -1,5 +1,5 @@
 -- `task::estimate` meets its contract: the file is refused, or it is estimated in place. Assumes nothing.
-use mathlib.Core.Path.{_≡_, sym, ap, _∙_}
+use mathlib.Core.Path.{sym, ap, _∙_}
 use Rattle.facts.specs.Answers.{checkedAnswer}
 use Rattle.task.specs.EstimateTaskLaws.{estimate-not-read}
 use borrow.Author.Needs.{needs}

@@ -1,5 +1,5 @@
 -- `task::relaxed_cost` meets its contract: the file, and then the action and the relaxed state. Assumes nothing.
-use mathlib.Core.Path.{_≡_, sym, ap, _∙_}
+use mathlib.Core.Path.{sym, ap, _∙_}
 use Rattle.facts.specs.Answers.{checkedAnswer}
 use Rattle.taskfile.specs.AnswerLaws.{ask-refused}
 use Rattle.relaxation.specs.Relaxed.{relaxedCost}

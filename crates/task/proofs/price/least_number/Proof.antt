@@ -1,9 +1,9 @@
 -- `task::price::least_number` meets its contract: the best so far and the values that are left are together all values. Assumes nothing.
 use Prim.Native.Nat.{_-_, _≤_}
-use mathlib.Core.Path.{_≡_, refl, ap, _∙_}
+use mathlib.Core.Path.{_∙_}
 use native.Mathlib.Omega.{arith}
 use denote.Ref.{now}
-use Rattle.estimate.specs.Number.{Number, number, lesser}
+use Rattle.estimate.specs.Number.{number, lesser}
 use Rattle.estimate.specs.Ranks.{rankNumber}
 use Rattle.relaxation.specs.EstimateInPlace.{numberFor}
 use Rattle.relaxation.specs.EstimateInPlaceLaws.{Picking, picking-start, picking-on, picking-end, number-in-place}

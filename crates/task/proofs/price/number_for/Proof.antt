@@ -1,6 +1,6 @@
 -- `task::price::number_for` meets its contract: a weight has two bytes, so that it is exact. Assumes nothing.
 use Prim.Native.Nat.{ℕ}
-use mathlib.Core.Path.{_≡_, ap, ap₂, _∙_}
+use mathlib.Core.Path.{ap, ap₂, _∙_}
 use lib.ListN.{getD}
 use denote.Ref.{now}
 use Rattle.estimate.specs.Number.{capped, sum, ranked}

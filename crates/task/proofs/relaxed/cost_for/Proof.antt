@@ -1,11 +1,9 @@
 -- `task::relaxed::cost_for` meets its contract: a weight has two bytes, and no entry is greater than the greatest. Assumes nothing.
-use Prim.Native.Nat.{_+_, _≤_}
-use mathlib.Core.Path.{_≡_, ap, ap₂, _∙_}
+use Prim.Native.Nat.{_+_}
+use mathlib.Core.Path.{ap, ap₂, _∙_}
 use Prim.Native.Nat.{ℕ}
 use lib.ListN.{getD}
 use denote.Ref.{now}
-use Rattle.taskfile.specs.Task.{maxWeight}
-use Rattle.relaxation.specs.RelaxedInPlace.{greatest}
 use Rattle.relaxation.specs.RelaxedInPlaceLaws.{greatest-at}
 use borrow.Author.Needs.{needs}
 use native.Mathlib.Omega.{arith}

@@ -1,6 +1,6 @@
 -- `task::relaxed::least_at` meets its contract: the best so far and the values that are left are together all values of the set. Assumes nothing.
-use Prim.Native.Nat.{ℕ, suc, _+_, _*_, _-_, _≤_, _<_}
-use mathlib.Core.Path.{_≡_, _∙_}
+use Prim.Native.Nat.{_+_, _-_, _≤_}
+use mathlib.Core.Path.{_∙_}
 use native.Mathlib.Omega.{arith}
 use denote.Ref.{now}
 use Rattle.taskfile.specs.Task.{maxWeight}

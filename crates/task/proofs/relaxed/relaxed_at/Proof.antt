@@ -1,10 +1,9 @@
 -- `task::relaxed::relaxed_at` meets its contract: the table has the least from each number above k on, and no entry is more than a weight for each node
 -- from there on. Assumes nothing.
-use Prim.Native.Nat.{ℕ, _*_, _-_, _≤_, _<_}
+use Prim.Native.Nat.{_*_, _-_, _≤_}
 use mathlib.Core.Path.{_≡_, refl, _∙_}
-use lib.ListN.{length, getD, length-set}
+use lib.ListN.{length, length-set}
 use native.Mathlib.Omega.{arith}
-use denote.Ref.{now}
 use Rattle.taskfile.specs.Task.{maxWeight}
 use Rattle.taskfile.specs.PartsInPlace.{actionIn}
 use Rattle.relaxation.specs.Pass.{Filled}
