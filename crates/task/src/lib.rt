@@ -88,31 +88,7 @@ pub fn relaxed_cost(file: &[u8], action: usize, sets: &[u8]) -> Costed
         Checked::Refused(why) => Costed::Refused(why),
         Checked::Accepted => {
             let task = indexed.task;
-            relaxed_in(file, task, action, sets)
-        }
-    }
-}
-
-// The same, of a file that is accepted.
-fn relaxed_in(file: &[u8], task: Task, action: usize, sets: &[u8]) -> Costed
-    requires { ⌜ Ready (now file) task ⌝ }
-    ensures { λ r. ⌜ costedAnswer r ≡ relaxedTask (now (file .entry)) action (now (sets .entry)) ⌝ }
-{
-    let variables = task.variables;
-    let actions = task.actions;
-    if actions <= action {
-        return Costed::Refused(Refusal::Missing(0));
-    }
-    let last = 1 + variables;
-    let sizes = &file[1..last];
-    match relaxed::check_sets(sizes, sets) {
-        Checked::Refused(why) => Costed::Refused(why),
-        Checked::Accepted => {
-            let starts = task.starts;
-            let firsts = task.firsts;
-            let nodes = task.nodes;
-            let first = offset_within(&firsts, action, Task::MAX_NODES);
-            Costed::Cost(relaxed::relaxed_at(file, sizes, starts[action], &nodes[first..], sets))
+            relaxed::relaxed_in(file, task, action, sets)
         }
     }
 }

@@ -1,9 +1,12 @@
 // Relaxed costs in place: the least cost of an action over the states of a relaxed state, by one pass over its nodes from the last to the first.
+use crate::Costed;
 use facts::Checked;
 use facts::Refusal;
 use facts::number::byte_at;
 use facts::number::offset_at;
+use facts::number::offset_within;
 use facts::partial::stray;
+use taskfile::Task;
 use taskfile::walk::diagram_at;
 use taskfile::walk::edge_for;
 ghost use mathlib.Core.Path.{_≡_};
@@ -11,18 +14,44 @@ ghost use Prim.Native.Nat.{_+_, _*_, _≤_, min};
 ghost use lib.ListN.{getD};
 ghost use Rattle.facts.specs.Answers.{checkedAnswer};
 ghost use Rattle.taskfile.specs.Task.{maxValues, maxNodes, maxWeight};
+ghost use Rattle.taskfile.specs.Index.{Ready};
 ghost use Rattle.taskfile.specs.PartsInPlace.{nodeIn, actionIn};
 ghost use Rattle.relaxation.specs.Relaxed.{SetInside};
 ghost use Rattle.relaxation.specs.Pass.{leastAt};
 ghost use Rattle.relaxation.specs.RelaxedPass.{relaxedPass, relaxedByPass};
 ghost use Rattle.relaxation.specs.RelaxedInPlace.{costFor, greatest, Relaxable};
-ghost use Rattle.task.specs.RelaxedTask.{checkRelaxed};
+ghost use Rattle.task.specs.Answers.{costedAnswer};
+ghost use Rattle.task.specs.RelaxedTask.{checkRelaxed, relaxedTask};
 
 // Above every cost.
 const TOP: u32 = 4294967295;
 
+// What an action of an accepted file costs at least over the states of a relaxed state: 11 for the number, then 12 and 4 for the sets.
+pub fn relaxed_in(file: &[u8], task: Task, action: usize, sets: &[u8]) -> Costed
+    requires { ⌜ Ready (now file) task ⌝ }
+    ensures { λ r. ⌜ costedAnswer r ≡ relaxedTask (now (file .entry)) action (now (sets .entry)) ⌝ }
+{
+    let variables = task.variables;
+    let actions = task.actions;
+    if actions <= action {
+        return Costed::Refused(Refusal::Missing(0));
+    }
+    let last = 1 + variables;
+    let sizes = &file[1..last];
+    match check_sets(sizes, sets) {
+        Checked::Refused(why) => Costed::Refused(why),
+        Checked::Accepted => {
+            let starts = task.starts;
+            let firsts = task.firsts;
+            let nodes = task.nodes;
+            let first = offset_within(&firsts, action, Task::MAX_NODES);
+            Costed::Cost(relaxed_at(file, sizes, starts[action], &nodes[first..], sets))
+        }
+    }
+}
+
 // Whether a relaxed state has a set for each variable that is not empty and has no stray bit: 12 for its length, then 4 at the lowest variable.
-pub fn check_sets(sizes: &[u8], sets: &[u8]) -> Checked
+fn check_sets(sizes: &[u8], sets: &[u8]) -> Checked
     ensures { λ r. ⌜ checkedAnswer r ≡ checkRelaxed (now (sizes .entry)) (now (sets .entry)) ⌝ }
 {
     if sets.len() != sizes.len() {
@@ -43,7 +72,7 @@ pub fn check_sets(sizes: &[u8], sets: &[u8]) -> Checked
 
 // The relaxed cost of the action at an offset, whose own nodes begin at the offsets `nodes`. Entry k of the table is the least from node k on; the
 // terminal's is 0.
-pub fn relaxed_at(file: &[u8], sizes: &[u8], at: usize, nodes: &[usize], sets: &[u8]) -> u32
+fn relaxed_at(file: &[u8], sizes: &[u8], at: usize, nodes: &[usize], sets: &[u8]) -> u32
     requires { ⌜ Relaxable (now file) (now sizes) at (now nodes) (now sets) ⌝ }
     ensures { λ r. ⌜ r ≡ relaxedByPass (actionIn (now (file .entry)) (now (sizes .entry)) at (now (nodes .entry))) (now (sets .entry)) ⌝ }
 {

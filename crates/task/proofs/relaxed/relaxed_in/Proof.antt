@@ -1,4 +1,4 @@
--- `task::relaxed_in` meets its contract: the number, the relaxed state, and then the pass over the action's nodes by the index. Assumes nothing.
+-- `task::relaxed::relaxed_in` meets its contract: the number, the relaxed state, and then the pass over the action's nodes by the index. Assumes nothing.
 use Prim.Native.Nat.{_+_, _-_}
 use mathlib.Core.Path.{_≡_, sym, ap, _∙_}
 use denote.Ref.{now}
@@ -9,8 +9,8 @@ use Rattle.task.specs.RelaxedTask.{checkRelaxed}
 use Rattle.task.specs.RelaxedTaskLaws.{relaxed-inside, relaxable, relaxed-in-place}
 use borrow.Author.Needs.{needs}
 use native.Mathlib.Omega.{arith}
-use Rattle.task.proofs.relaxed_in.Statement.{statement}
-use Rattle.task.proofs.relaxed_in.Tie as tie
+use Rattle.task.proofs.relaxed.relaxed_in.Statement.{statement}
+use Rattle.task.proofs.relaxed.relaxed_in.Tie as tie
 
 -- the domain sizes are one for each variable
 same : (c : tie.Start) → 1 + c .args .task .variables - 1 ≡ c .args .task .variables
