@@ -6,10 +6,9 @@ mod length;
 mod put;
 mod step;
 
-use facts::Checked;
 use facts::Refusal;
 use length::extent_of;
-use taskfile::Task;
+use taskfile::Counted;
 ghost use mathlib.Core.Path.{_≡_};
 ghost use lib.ListN.{length};
 ghost use Rattle.taskfile.specs.Index.{Ready};
@@ -26,34 +25,38 @@ pub fn compile(file: &[u8], out: &mut [u8]) -> Compiled
     ensures { λ r. ⌜ compiledAnswer r ≡ compileFile (now (file .entry)) (length (now (out .entry))) ⌝ }
     ensures { λ r. ⌜ now (out .exit) ≡ compiledBuffer (now (file .entry)) (now (out .entry)) ⌝ }
 {
-    let indexed = taskfile::index_of(file);
-    let answer = indexed.answer;
-    match answer {
-        Checked::Refused(why) => Compiled::Refused(why),
-        Checked::Accepted => {
-            let task = indexed.task;
-            compile_in(file, task, out)
+    let mut starts = [0; 32];
+    let mut firsts = [0; 32];
+    let mut nodes = [0; 64];
+    let counted = taskfile::index_in(file, &mut starts, &mut firsts, &mut nodes);
+    match counted {
+        Counted::Refused(why) => Compiled::Refused(why),
+        Counted::Actions(variables, actions) => {
+            compile_in(file, variables, actions, &starts, &firsts, &nodes, out)
         }
     }
 }
 
-// The same, of a file that is accepted.
-fn compile_in(file: &[u8], task: Task, out: &mut [u8]) -> Compiled
-    requires { ⌜ Ready (now file) task ⌝ }
+// The same, of a file that is accepted, from its index: the index is lent, and not copied.
+fn compile_in(
+    file: &[u8],
+    variables: usize,
+    actions: usize,
+    starts: &[usize],
+    firsts: &[usize],
+    nodes: &[usize],
+    out: &mut [u8],
+) -> Compiled
+    requires { ⌜ Ready (now file) (record { variables = variables; actions = actions; starts = now starts; firsts = now firsts; nodes = now nodes }) ⌝ }
     ensures { λ r. ⌜ compiledAnswer r ≡ compileFile (now (file .entry)) (length (now (out .entry))) ⌝ }
     ensures { λ r. ⌜ now (out .exit) ≡ compiledBuffer (now (file .entry)) (now (out .entry)) ⌝ }
 {
-    let variables = task.variables;
-    let actions = task.actions;
-    let starts = task.starts;
-    let firsts = task.firsts;
-    let nodes = task.nodes;
     let last = 1 + variables;
     let sizes = &file[1..last];
     let action_at = &starts[..actions];
     let mut incoming = [0; 32];
     length::note_incoming(file, action_at, &mut incoming);
-    let extent = extent_of(file, sizes, action_at, &incoming, &firsts, &nodes);
+    let extent = extent_of(file, sizes, action_at, &incoming, firsts, nodes);
     let needed = head::head_length(file, variables, actions) + extent.bytes;
     if out.len() < needed {
         return Compiled::Refused(Refusal::Short(needed));
@@ -64,8 +67,8 @@ fn compile_in(file: &[u8], task: Task, out: &mut [u8]) -> Compiled
         sizes,
         action_at,
         &incoming,
-        &firsts,
-        &nodes,
+        firsts,
+        nodes,
         &mut out[at..],
     );
     Compiled::Length(at + written)

@@ -8,9 +8,9 @@ use facts::Checked;
 use facts::Ran;
 use facts::Refusal;
 use facts::number::offset_within;
+use taskfile::Counted;
 use taskfile::Task;
 use taskfile::action::run_list;
-use taskfile::index_of;
 use taskfile::walk::walk_at;
 ghost use mathlib.Core.Path.{_≡_};
 ghost use Rattle.facts.specs.Answers.{checkedAnswer, ranAnswer};
@@ -34,32 +34,55 @@ pub enum Costed {
 pub fn check(file: &[u8]) -> Checked
     ensures { λ r. ⌜ checkedAnswer r ≡ checkTask (now (file .entry)) ⌝ }
 {
-    let indexed = index_of(file);
-    indexed.answer
+    let mut starts = [0; 32];
+    let mut firsts = [0; 32];
+    let mut nodes = [0; 64];
+    let counted = taskfile::index_in(file, &mut starts, &mut firsts, &mut nodes);
+    match counted {
+        Counted::Refused(why) => Checked::Refused(why),
+        Counted::Actions(_, _) => Checked::Accepted,
+    }
 }
 
 // What an action costs in a state, whether or not it applies there: the file's refusals, then 11 for the number, then 12 and 4 for the state.
 pub fn cost(file: &[u8], action: usize, state: &[u8]) -> Costed
     ensures { λ r. ⌜ costedAnswer r ≡ costTask (now (file .entry)) action (now (state .entry)) ⌝ }
 {
-    let indexed = index_of(file);
-    let answer = indexed.answer;
-    match answer {
-        Checked::Refused(why) => Costed::Refused(why),
-        Checked::Accepted => {
-            let task = indexed.task;
-            cost_in(file, task, action, state)
+    let mut starts = [0; 32];
+    let mut firsts = [0; 32];
+    let mut nodes = [0; 64];
+    let counted = taskfile::index_in(file, &mut starts, &mut firsts, &mut nodes);
+    match counted {
+        Counted::Refused(why) => Costed::Refused(why),
+        Counted::Actions(variables, actions) => {
+            cost_in(
+                file,
+                variables,
+                actions,
+                &starts,
+                &firsts,
+                &nodes,
+                action,
+                state,
+            )
         }
     }
 }
 
 // The same, of a file that is accepted.
-fn cost_in(file: &[u8], task: Task, action: usize, state: &[u8]) -> Costed
-    requires { ⌜ Ready (now file) task ⌝ }
+fn cost_in(
+    file: &[u8],
+    variables: usize,
+    actions: usize,
+    starts: &[usize],
+    firsts: &[usize],
+    nodes: &[usize],
+    action: usize,
+    state: &[u8],
+) -> Costed
+    requires { ⌜ Ready (now file) (record { variables = variables; actions = actions; starts = now starts; firsts = now firsts; nodes = now nodes }) ⌝ }
     ensures { λ r. ⌜ costedAnswer r ≡ costTask (now (file .entry)) action (now (state .entry)) ⌝ }
 {
-    let variables = task.variables;
-    let actions = task.actions;
     if actions <= action {
         return Costed::Refused(Refusal::Missing(0));
     }
@@ -67,10 +90,7 @@ fn cost_in(file: &[u8], task: Task, action: usize, state: &[u8]) -> Costed
     match facts::state::check_state(&file[1..last], state) {
         Checked::Refused(why) => Costed::Refused(why),
         Checked::Accepted => {
-            let starts = task.starts;
-            let firsts = task.firsts;
-            let nodes = task.nodes;
-            let first = offset_within(&firsts, action, Task::MAX_NODES);
+            let first = offset_within(firsts, action, nodes.len());
             let walked = walk_at(file, starts[action], &nodes[first..], state);
             Costed::Cost(walked.cost)
         }
@@ -82,13 +102,23 @@ fn cost_in(file: &[u8], task: Task, action: usize, state: &[u8]) -> Costed
 pub fn relaxed_cost(file: &[u8], action: usize, sets: &[u8]) -> Costed
     ensures { λ r. ⌜ costedAnswer r ≡ relaxedTask (now (file .entry)) action (now (sets .entry)) ⌝ }
 {
-    let indexed = index_of(file);
-    let answer = indexed.answer;
-    match answer {
-        Checked::Refused(why) => Costed::Refused(why),
-        Checked::Accepted => {
-            let task = indexed.task;
-            relaxed::relaxed_in(file, task, action, sets)
+    let mut starts = [0; 32];
+    let mut firsts = [0; 32];
+    let mut nodes = [0; 64];
+    let counted = taskfile::index_in(file, &mut starts, &mut firsts, &mut nodes);
+    match counted {
+        Counted::Refused(why) => Costed::Refused(why),
+        Counted::Actions(variables, actions) => {
+            relaxed::relaxed_in(
+                file,
+                variables,
+                actions,
+                &starts,
+                &firsts,
+                &nodes,
+                action,
+                sets,
+            )
         }
     }
 }
@@ -97,27 +127,31 @@ pub fn relaxed_cost(file: &[u8], action: usize, sets: &[u8]) -> Costed
 pub fn run(file: &[u8], list: &[u16]) -> Ran
     ensures { λ r. ⌜ ranAnswer r ≡ runTask (now (file .entry)) (now (list .entry)) ⌝ }
 {
-    let indexed = index_of(file);
-    let answer = indexed.answer;
-    match answer {
-        Checked::Refused(why) => Ran::Refused(why),
-        Checked::Accepted => {
-            let task = indexed.task;
-            run_in(file, task, list)
+    let mut starts = [0; 32];
+    let mut firsts = [0; 32];
+    let mut nodes = [0; 64];
+    let counted = taskfile::index_in(file, &mut starts, &mut firsts, &mut nodes);
+    match counted {
+        Counted::Refused(why) => Ran::Refused(why),
+        Counted::Actions(variables, actions) => {
+            run_in(file, variables, actions, &starts, &firsts, &nodes, list)
         }
     }
 }
 
 // The same, of a file that is accepted: the run starts from a copy of the initial values.
-fn run_in(file: &[u8], task: Task, list: &[u16]) -> Ran
-    requires { ⌜ Ready (now file) task ⌝ }
+fn run_in(
+    file: &[u8],
+    variables: usize,
+    actions: usize,
+    starts: &[usize],
+    firsts: &[usize],
+    nodes: &[usize],
+    list: &[u16],
+) -> Ran
+    requires { ⌜ Ready (now file) (record { variables = variables; actions = actions; starts = now starts; firsts = now firsts; nodes = now nodes }) ⌝ }
     ensures { λ r. ⌜ ranAnswer r ≡ runTask (now (file .entry)) (now (list .entry)) ⌝ }
 {
-    let variables = task.variables;
-    let actions = task.actions;
-    let starts = task.starts;
-    let firsts = task.firsts;
-    let nodes = task.nodes;
     let init = 1 + variables;
     let goal = init + variables;
     let mut state = [0; 24];
@@ -126,8 +160,8 @@ fn run_in(file: &[u8], task: Task, list: &[u16]) -> Ran
         file,
         goal,
         &starts[..actions],
-        &firsts,
-        &nodes,
+        firsts,
+        nodes,
         list,
         &mut state[..variables],
     );
@@ -138,40 +172,44 @@ fn run_in(file: &[u8], task: Task, list: &[u16]) -> Ran
 pub fn estimate(file: &[u8], state: &[u8]) -> Estimated
     ensures { λ r. ⌜ estimatedAnswer r ≡ estimateTask (now (file .entry)) (now (state .entry)) ⌝ }
 {
-    let indexed = index_of(file);
-    let answer = indexed.answer;
-    match answer {
-        Checked::Refused(why) => Estimated::Refused(why),
-        Checked::Accepted => {
-            let task = indexed.task;
-            estimate_in(file, task, state)
+    let mut starts = [0; 32];
+    let mut firsts = [0; 32];
+    let mut nodes = [0; 64];
+    let counted = taskfile::index_in(file, &mut starts, &mut firsts, &mut nodes);
+    match counted {
+        Counted::Refused(why) => Estimated::Refused(why),
+        Counted::Actions(variables, actions) => {
+            estimate_in(file, variables, actions, &starts, &firsts, &nodes, state)
         }
     }
 }
 
 // The same, of a file that is accepted.
-fn estimate_in(file: &[u8], task: Task, state: &[u8]) -> Estimated
-    requires { ⌜ Ready (now file) task ⌝ }
+fn estimate_in(
+    file: &[u8],
+    variables: usize,
+    actions: usize,
+    starts: &[usize],
+    firsts: &[usize],
+    nodes: &[usize],
+    state: &[u8],
+) -> Estimated
+    requires { ⌜ Ready (now file) (record { variables = variables; actions = actions; starts = now starts; firsts = now firsts; nodes = now nodes }) ⌝ }
     ensures { λ r. ⌜ estimatedAnswer r ≡ estimateTask (now (file .entry)) (now (state .entry)) ⌝ }
 {
-    let variables = task.variables;
-    let actions = task.actions;
     let init = 1 + variables;
     let sizes = &file[1..init];
     match facts::state::check_state(sizes, state) {
         Checked::Refused(why) => Estimated::Refused(why),
         Checked::Accepted => {
-            let starts = task.starts;
-            let firsts = task.firsts;
-            let nodes = task.nodes;
             let goal = init + variables;
             let number = rounds::settle(
                 file,
                 sizes,
                 goal,
                 &starts[..actions],
-                &firsts,
-                &nodes,
+                firsts,
+                nodes,
                 state,
             );
             Estimated::Number(number)

@@ -27,12 +27,19 @@ ghost use Rattle.task.specs.RelaxedTask.{checkRelaxed, relaxedTask};
 const TOP: u32 = 4294967295;
 
 // What an action of an accepted file costs at least over the states of a relaxed state: 11 for the number, then 12 and 4 for the sets.
-pub fn relaxed_in(file: &[u8], task: Task, action: usize, sets: &[u8]) -> Costed
-    requires { ⌜ Ready (now file) task ⌝ }
+pub fn relaxed_in(
+    file: &[u8],
+    variables: usize,
+    actions: usize,
+    starts: &[usize],
+    firsts: &[usize],
+    nodes: &[usize],
+    action: usize,
+    sets: &[u8],
+) -> Costed
+    requires { ⌜ Ready (now file) (record { variables = variables; actions = actions; starts = now starts; firsts = now firsts; nodes = now nodes }) ⌝ }
     ensures { λ r. ⌜ costedAnswer r ≡ relaxedTask (now (file .entry)) action (now (sets .entry)) ⌝ }
 {
-    let variables = task.variables;
-    let actions = task.actions;
     if actions <= action {
         return Costed::Refused(Refusal::Missing(0));
     }
@@ -41,10 +48,7 @@ pub fn relaxed_in(file: &[u8], task: Task, action: usize, sets: &[u8]) -> Costed
     match check_sets(sizes, sets) {
         Checked::Refused(why) => Costed::Refused(why),
         Checked::Accepted => {
-            let starts = task.starts;
-            let firsts = task.firsts;
-            let nodes = task.nodes;
-            let first = offset_within(&firsts, action, Task::MAX_NODES);
+            let first = offset_within(firsts, action, nodes.len());
             Costed::Cost(relaxed_at(file, sizes, starts[action], &nodes[first..], sets))
         }
     }

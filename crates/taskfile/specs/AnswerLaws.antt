@@ -1,7 +1,7 @@
 -- Laws of what the operations answer on an accepted file, by its index.
 use mathlib.Core.Path.{_≡_, refl, sym, ap, _∙_}
 use mathlib.Core.Option.{none}
-use Prim.Native.Nat.{ℕ, zero, suc, _+_, _*_, _-_, _≤_, _<_, min}
+use Prim.Native.Nat.{ℕ, zero, suc, _+_, _*_, _≤_, _<_}
 use native.Mathlib.Omega.{arith}
 use mathlib.Core.List.{List, [], _∷_}
 use lib.ListN.{length, getD, take, drop, getElem?}
@@ -17,12 +17,12 @@ use Rattle.facts.specs.Run.{atMost}
 use Rattle.facts.specs.PartialReadLaws.{partial-read}
 use Rattle.facts.specs.HeadLaws.{head-read}
 use Rattle.taskfile.specs.declared.Task.{Task as Index}
-use Rattle.taskfile.specs.Task.{Action, Task, Walk, maxNodes, maxList, cost}
+use Rattle.taskfile.specs.Task.{Action, Task, Walk, maxList, cost}
 use Rattle.taskfile.specs.TaskFile.{readTask, checkTask, actionOf, askTask, runTask}
 use Rattle.taskfile.specs.TaskReadLaws.{task-read, task-limits}
 use Rattle.taskfile.specs.WalkInPlace.{walkAt, moveAt, runList}
 use Rattle.taskfile.specs.WalkInPlaceLaws.{walk-in-place}
-use Rattle.taskfile.specs.MoveInPlaceLaws.{own-nodes, located-actions, sum-in-place}
+use Rattle.taskfile.specs.MoveInPlaceLaws.{located-actions, sum-in-place}
 use Rattle.taskfile.specs.InPlace.{taskAt}
 use Rattle.taskfile.specs.Index.{Ready}
 
@@ -85,12 +85,6 @@ module _ (f : List ℕ) {i : Index} (ready : Ready f i) where
   -- the domain sizes
   pub sizes-there : {k : ℕ} → k ≡ i .variables → take k (drop 1 f) ≡ t .sizes
   sizes-there e = ap (λ (j : ℕ). take j (drop 1 f)) e ∙ starts .sizes
-
-  -- the nodes of action number a, from its first one on
-  pub own-there : (a : ℕ) {k : ℕ} → k ≡ min (getD (i .firsts) a 0) maxNodes → take (maxNodes - k) (drop k (i .nodes)) ≡ drop (getD (i .firsts) a 0) (i .nodes)
-  own-there a {k} e =
-      let first = getD (i .firsts) a 0 in
-      ap (λ (n : ℕ). take (n - k) (drop k (i .nodes))) (sym (ready .nodes-long)) ∙ own-nodes (i .nodes) first (e ∙ ap (min first) (sym (ready .nodes-long)))
 
   -- one start for each action
   pub starts-count : length (take (i .actions) (i .starts)) ≡ length (t .actions)

@@ -2,11 +2,13 @@
 use mathlib.Core.Path.{_≡_}
 use Prim.Native.Nat.{ℕ}
 use mathlib.Core.List.{List}
+use lib.Dec.{leb}
 use lib.ListN.{length}
-use Rattle.facts.specs.Read.{Read, accepted}
+use Rattle.facts.specs.Read.{Read, accepted, check, _>>=_}
 use Rattle.facts.specs.Answers.{checkedAnswer}
 use Rattle.taskfile.specs.declared.Indexed.{Indexed}
 use Rattle.taskfile.specs.declared.Task.{Task}
+use Rattle.taskfile.specs.Task.{maxActions, maxNodes}
 use Rattle.taskfile.specs.TaskFile.{checkTask}
 use Rattle.taskfile.specs.InPlace.{taskAt, Located}
 
@@ -17,6 +19,18 @@ pub record Ready (f : List ℕ) (t : Task) : Type 0 where
   pub starts-long : length (t .starts) ≡ 32
   pub firsts-long : length (t .firsts) ≡ 32
   pub nodes-long : length (t .nodes) ≡ 64
+
+-- how many variables and actions a file has, where its index is noted in rows of these lengths: 7 with the length needed for a row that is too short
+unfoldable pub indexAnswer : List ℕ → ℕ → ℕ → ℕ → Read (ℕ × ℕ)
+indexAnswer f starts firsts nodes = do
+  _ ← check (leb maxActions starts) 7 maxActions
+  _ ← check (leb maxActions firsts) 7 maxActions
+  _ ← check (leb maxNodes nodes) 7 maxNodes
+  taskAt f
+
+-- where that is no refusal, the rows are the index
+pub record Rows (f : List ℕ) (answer : Read (ℕ × ℕ)) (starts firsts nodes : List ℕ) : Type 0 where
+  pub located : {n k : ℕ} → answer ≡ accepted (n, k) → Located f starts firsts nodes
 
 -- the answer is the check's, and where the file is accepted the index is its index
 pub record IndexOf (f : List ℕ) (r : Indexed) : Type 0 where

@@ -11,10 +11,11 @@ use Rattle.facts.specs.Lists.{At}
 use Rattle.facts.specs.Fields.{nextOf, valueOf, Head, readCount, readHead, headAt, readEnd}
 use Rattle.facts.specs.FieldLaws.{count-read}
 use Rattle.facts.specs.HeadLaws.{headed, headed-sizes, no-head}
-use Rattle.taskfile.specs.Task.{Action, Task, maxNodes}
+use Rattle.taskfile.specs.Task.{Action, Task, maxActions, maxNodes}
 use Rattle.taskfile.specs.TaskFile.{readActions, readTask, checkTask}
 use Rattle.taskfile.specs.TaskReadLaws.{task-read}
 use Rattle.taskfile.specs.InPlace.{Lies, Listed, taskAt, Located}
+use Rattle.taskfile.specs.Index.{Ready, indexAnswer, Rows}
 use Rattle.taskfile.specs.IndexLaws.{actions-count}
 
 -- what is counted of a task
@@ -35,6 +36,39 @@ module _ (f : List ℕ) where
   pub check-accepted : {n k : ℕ} → taskAt f ≡ accepted (n, k) → checkTask f ≡ accepted tt
   unfolding taskAt checkTask
   check-accepted h = rw (made counts (readTask f) h .answer)
+
+  -- ---- the index in lent rows
+
+  pub short-starts : {starts : ℕ} (firsts nodes : ℕ) → starts < maxActions → indexAnswer f starts firsts nodes ≡ refused 7 maxActions
+  unfolding indexAnswer
+  short-starts {starts} firsts nodes l = rw (lt-leb maxActions starts l)
+
+  pub short-firsts : {starts firsts : ℕ} (nodes : ℕ) → maxActions ≤ starts → firsts < maxActions → indexAnswer f starts firsts nodes ≡ refused 7 maxActions
+  unfolding indexAnswer
+  short-firsts {starts} {firsts} nodes s l = rw (le-leb maxActions starts s, lt-leb maxActions firsts l)
+
+  pub short-nodes : {starts firsts nodes : ℕ} → maxActions ≤ starts → maxActions ≤ firsts → nodes < maxNodes → indexAnswer f starts firsts nodes ≡ refused 7 maxNodes
+  unfolding indexAnswer
+  short-nodes {starts} {firsts} {nodes} s t l = rw (le-leb maxActions starts s, le-leb maxActions firsts t, lt-leb maxNodes nodes l)
+
+  pub long-rows : {starts firsts nodes : ℕ} → maxActions ≤ starts → maxActions ≤ firsts → maxNodes ≤ nodes → indexAnswer f starts firsts nodes ≡ taskAt f
+  unfolding indexAnswer
+  long-rows {starts} {firsts} {nodes} s t l = rw (le-leb maxActions starts s, le-leb maxActions firsts t, le-leb maxNodes nodes l)
+
+  -- rows that are as long as they have to be tell what the check tells
+  pub index-ready : {answer : Read (ℕ × ℕ)} {n k : ℕ} {starts firsts nodes : List ℕ} → answer ≡ indexAnswer f maxActions maxActions maxNodes → Rows f answer starts firsts nodes
+      → answer ≡ accepted (n, k) → length starts ≡ maxActions → length firsts ≡ maxActions → length nodes ≡ maxNodes
+      → Ready f (record { variables = n; actions = k; starts = starts; firsts = firsts; nodes = nodes })
+  unfolding indexAnswer
+  index-ready h rows is s t l = record { counts = sym h ∙ is; located = rows .located is; starts-long = s; firsts-long = t; nodes-long = l }
+
+  pub index-refused : {n p : ℕ} → indexAnswer f maxActions maxActions maxNodes ≡ refused n p → checkTask f ≡ refused n p
+  unfolding indexAnswer
+  index-refused h = check-refused h
+
+  pub index-accepted : {n k : ℕ} → indexAnswer f maxActions maxActions maxNodes ≡ accepted (n, k) → checkTask f ≡ accepted tt
+  unfolding indexAnswer
+  index-accepted h = check-accepted h
 
   -- ---- the ways in which a file can go
 

@@ -6,7 +6,10 @@ pub mod walk;
 
 use facts::Checked;
 use facts::Refusal;
-ghost use Rattle.taskfile.specs.Index.{IndexOf};
+ghost use mathlib.Core.Path.{_≡_};
+ghost use lib.ListN.{length};
+ghost use Rattle.taskfile.specs.Answers.{countedAnswer};
+ghost use Rattle.taskfile.specs.Index.{IndexOf, indexAnswer, Rows};
 
 // Where the parts of an accepted task file stand: how many variables and actions it has, where each action starts, which of all nodes is its first, and where each node starts.
 pub struct Task {
@@ -79,4 +82,26 @@ pub fn index_of(file: &[u8]) -> Indexed
             },
         },
     }
+}
+
+// The index of a file, noted in lent rows: how many variables and actions there are, or the refusal; 7 with the length needed for a row that is too short.
+pub fn index_in(
+    file: &[u8],
+    starts: &mut [usize],
+    firsts: &mut [usize],
+    nodes: &mut [usize],
+) -> Counted
+    ensures { λ r. ⌜ countedAnswer r ≡ indexAnswer (now (file .entry)) (length (now (starts .entry))) (length (now (firsts .entry))) (length (now (nodes .entry))) ⌝ }
+    ensures { λ r. ⌜ Rows (now (file .entry)) (countedAnswer r) (now (starts .exit)) (now (firsts .exit)) (now (nodes .exit)) ⌝ }
+{
+    if starts.len() < Task::MAX_ACTIONS as usize {
+        return Counted::Refused(Refusal::Short(Task::MAX_ACTIONS as usize));
+    }
+    if firsts.len() < Task::MAX_ACTIONS as usize {
+        return Counted::Refused(Refusal::Short(Task::MAX_ACTIONS as usize));
+    }
+    if nodes.len() < Task::MAX_NODES {
+        return Counted::Refused(Refusal::Short(Task::MAX_NODES));
+    }
+    index::index_into(file, starts, firsts, nodes)
 }

@@ -32,81 +32,78 @@ abbrev probe : tie.Start → List ℕ
 probe c = writeProbe (probeOf (task c .task))
 
 -- the domain sizes as they stand
-sizes-are : (c : tie.Start) → take (1 + c .args .task .variables - 1) (drop 1 (now (c .args .file))) ≡ task c .task .sizes
-sizes-are c = let same : 1 + c .args .task .variables - 1 ≡ c .args .task .variables = omega arith in ap (λ (k : ℕ). take k (drop 1 (now (c .args .file)))) same ∙ begins c .sizes
+sizes-are : (c : tie.Start) → take (1 + c .args .variables - 1) (drop 1 (now (c .args .file))) ≡ task c .task .sizes
+sizes-are c = let same : 1 + c .args .variables - 1 ≡ c .args .variables = omega arith in ap (λ (k : ℕ). take k (drop 1 (now (c .args .file)))) same ∙ begins c .sizes
 
 -- the offset of each action
-few : (c : tie.Start) → c .args .task .actions ≤ length (c .args .task .starts)
+few : (c : tie.Start) → c .args .actions ≤ length (now (c .args .starts))
 few c = omega (arith, begins c .actions, c .pre .starts-long)
 
-starts-long : (c : tie.Start) → length (take (c .args .task .actions) (c .args .task .starts)) ≡ c .args .task .actions
-starts-long c = length-take-le (c .args .task .actions) (c .args .task .starts) (few c)
+starts-long : (c : tie.Start) → length (take (c .args .actions) (now (c .args .starts))) ≡ c .args .actions
+starts-long c = length-take-le (c .args .actions) (now (c .args .starts)) (few c)
 
 -- the limits
-limits : (c : tie.Start) → (length (take (1 + c .args .task .variables - 1) (drop 1 (now (c .args .file)))) ≤ 24) × (length (take (c .args .task .actions) (c .args .task .starts)) ≤ 32)
+limits : (c : tie.Start) → (length (take (1 + c .args .variables - 1) (drop 1 (now (c .args .file)))) ≤ 24) × (length (take (c .args .actions) (now (c .args .starts))) ≤ 32)
 limits c = (omega (arith, ap length (sizes-are c), task c .variables, begins c .variables), omega (arith, starts-long c, begins c .actions))
 
 -- an action begins within the file
-begin : (c : tie.Start) (a : ℕ) → a < length (take (c .args .task .actions) (c .args .task .starts)) → getD (take (c .args .task .actions) (c .args .task .starts)) a 0 ≤ length (now (c .args .file))
+begin : (c : tie.Start) (a : ℕ) → a < length (take (c .args .actions) (now (c .args .starts))) → getD (take (c .args .actions) (now (c .args .starts))) a 0 ≤ length (now (c .args .file))
 begin c a h = omega (arith, actions-stood (now (c .args .file)) (c .pre) (sizes-are c) a h .pre .fits)
 
 note-incoming-requires : tie.Need-note-incoming-requires
 note-incoming-requires c κs = let s = c .before .before .before .before .before .before .before .before in (limits s .1, begin s)
 
 extent-of-requires : tie.Need-extent-of-requires
-extent-of-requires c κs = let s = c .before .before .before .before .before .before .before .before .before .before .before .before .before in (limits s, (actions-stood (now (s .args .file)) (s .pre) (sizes-are s), c .before .before .before .before .note-incoming .ensures))
+extent-of-requires c κs = let s = c .before .before .before .before .before .before .before .before .before .before .before in (limits s, (actions-stood (now (s .args .file)) (s .pre) (sizes-are s), c .before .before .note-incoming .ensures))
 
 head-length-requires : tie.Need-head-length-requires
-head-length-requires c κs = let b = begins (c .before .before .before .before .before .before .before .before .before .before .before .before .before .before) in (b .variables, b .actions, b .fits)
+head-length-requires c κs = let b = begins (c .before .before .before .before .before .before .before .before .before .before .before .before) in (b .variables, b .actions, b .fits)
 
 -- the length that is needed
-needed-is : (c : tie.After-head-length) → c .head-length .result + c .before .extent-of .result .bytes ≡ length (probe (c .before .before .before .before .before .before .before .before .before .before .before .before .before .before .before))
-needed-is c = let s = c .before .before .before .before .before .before .before .before .before .before .before .before .before .before .before in file-length (now (s .args .file)) (s .pre) (sizes-are s) (c .head-length .ensures .0) (c .before .extent-of .ensures .1)
+needed-is : (c : tie.After-head-length) → c .head-length .result + c .before .extent-of .result .bytes ≡ length (probe (c .before .before .before .before .before .before .before .before .before .before .before .before .before))
+needed-is c = let s = c .before .before .before .before .before .before .before .before .before .before .before .before .before in file-length (now (s .args .file)) (s .pre) (sizes-are s) (c .head-length .ensures .0) (c .before .extent-of .ensures .1)
 
 add-needed : tie.Need-add-needed
-add-needed c = let s = c .before .before .before .before .before .before .before .before .before .before .before .before .before .before .before .before in omega (arith, needed-is (c .before), compiled-length (now (s .args .file)) (task s .reads))
+add-needed c = let s = c .before .before .before .before .before .before .before .before .before .before .before .before .before .before in omega (arith, needed-is (c .before), compiled-length (now (s .args .file)) (task s .reads))
 
 returns : tie.Need-returns
 returns c =
-    let s = c .before .before .before .before .before .before .before .before .before .before .before .before .before .before .before .before .before in
+    let s = c .before .before .before .before .before .before .before .before .before .before .before .before .before .before .before in
     let r = compile-short (now (s .args .file)) (task s .reads) (now (s .args .out)) (needed-is (c .before .before)) (c .if1 .taken) in
     (sym (r .0), sym (r .1))
 
 -- there is room for it
-room : (c : tie.Else1) → let s = c .before .before .before .before .before .before .before .before .before .before .before .before .before .before .before .before .before in length (probe s) ≤ length (now (s .args .out))
+room : (c : tie.Else1) → let s = c .before .before .before .before .before .before .before .before .before .before .before .before .before .before .before in length (probe s) ≤ length (now (s .args .out))
 room c = omega (arith, needed-is (c .before .before), c .if1 .left)
 
 put-head-requires : tie.Need-put-head-requires
 put-head-requires c κs =
-    let s = c .before .before .before .before .before .before .before .before .before .before .before .before .before .before .before .before .before .before .before in
+    let s = c .before .before .before .before .before .before .before .before .before .before .before .before .before .before .before .before .before in
     let f = now (s .args .file) in
     let r = task s .reads in
     let count = c .before .before .before .before .before .extent-of .ensures .0 in (
       (begins s .variables, limits s .1, omega (arith, count, ap length (steps-in-place f (s .pre) (sizes-are s)), steps-most (task s .task) (task-wf f r) (task-limits f r)), goal-stands f (s .pre)),
-      ((λ a l. weighs f (actions-stood f (s .pre) (sizes-are s) a l) (c .before .before .before .before .before .before .before .before .before .before .note-incoming .ensures a l)), front-room f (s .pre) (sizes-are s) count (room (c .before .before))),
+      ((λ a l. weighs f (actions-stood f (s .pre) (sizes-are s) a l) (c .before .before .before .before .before .before .before .before .note-incoming .ensures a l)), front-room f (s .pre) (sizes-are s) count (room (c .before .before))),
     )
 
 -- the steps begin within the buffer
 inside : (c : tie.After-put-head) → c .put-head .result ≤ length (c .put-head .last .1 .1 .1 .1 .1 .0)
-inside c = let s = c .before .before .before .before .before .before .before .before .before .before .before .before .before .before .before .before .before .before .before .before in front-inside (now (s .args .file)) (s .pre) (sizes-are s) (c .before .before .before .before .before .before .extent-of .ensures .0) (room (c .before .before .before)) (c .put-head .ensures)
+inside c = let s = c .before .before .before .before .before .before .before .before .before .before .before .before .before .before .before .before .before .before in front-inside (now (s .args .file)) (s .pre) (sizes-are s) (c .before .before .before .before .before .before .extent-of .ensures .0) (room (c .before .before .before)) (c .put-head .ensures)
 
 put-actions-requires : tie.Need-put-actions-requires
 put-actions-requires c κs =
-    let s = c .before .before .before .before .before .before .before .before .before .before .before .before .before .before .before .before .before .before .before .before .before .before .before .before .before .before in
+    let s = c .before .before .before .before .before .before .before .before .before .before .before .before .before .before .before .before .before .before .before .before .before .before in
     let f = now (s .args .file) in
-    (limits s, ((actions-stood f (s .pre) (sizes-are s), c .before .before .before .before .before .before .before .before .before .before .before .before .before .before .before .before .before .note-incoming .ensures), steps-room f (s .pre) (sizes-are s) (c .before .before .before .before .before .before .before .before .before .before .before .before .extent-of .ensures .0) (room (c .before .before .before .before .before .before .before .before .before)) (c .before .before .before .before .before .before .put-head .ensures)))
+    (limits s, ((actions-stood f (s .pre) (sizes-are s), c .before .before .before .before .before .before .before .before .before .before .before .before .before .note-incoming .ensures), steps-room f (s .pre) (sizes-are s) (c .before .before .before .before .before .before .before .before .before .before .extent-of .ensures .0) (room (c .before .before .before .before .before .before .before)) (c .before .before .before .before .put-head .ensures)))
 
 -- the file is written
-wrote : (c : tie.After-put-actions) → let s = c .before .before .before .before .before .before .before .before .before .before .before .before .before .before .before .before .before .before .before .before .before .before .before .before .before .before .before in let front = c .before .before .before .before .before .before .before .put-head in Wrote (probe s) (now (s .args .out)) (putMid (front .result) (length (front .last .1 .1 .1 .1 .1 .0) - front .result) (front .last .1 .1 .1 .1 .1 .0) (c .put-actions .last .1 .1 .1 .1 .1 .1 .0)) (front .result + c .put-actions .result)
-wrote c = let s = c .before .before .before .before .before .before .before .before .before .before .before .before .before .before .before .before .before .before .before .before .before .before .before .before .before .before .before in file-wrote (now (s .args .file)) (s .pre) (sizes-are s) (c .before .before .before .before .before .before .before .before .before .before .before .before .before .extent-of .ensures .0) (room (c .before .before .before .before .before .before .before .before .before .before)) (c .before .before .before .before .before .before .before .put-head .ensures) (c .put-actions .ensures)
-
-add-t18 : tie.Need-add-t18
-add-t18 c = let s = c .before .before .before .before .before .before .before .before .before .before .before .before .before .before .before .before .before .before .before .before .before .before .before .before .before .before .before .before .before in omega (arith, wrote (c .before .before) .count, compiled-length (now (s .args .file)) (task s .reads))
+wrote : (c : tie.After-put-actions) → let s = c .before .before .before .before .before .before .before .before .before .before .before .before .before .before .before .before .before .before .before .before .before .before .before in let front = c .before .before .before .before .before .put-head in Wrote (probe s) (now (s .args .out)) (putMid (front .result) (length (front .last .1 .1 .1 .1 .1 .0) - front .result) (front .last .1 .1 .1 .1 .1 .0) (c .put-actions .last .1 .1 .1 .1 .1 .1 .0)) (front .result + c .put-actions .result)
+wrote c = let s = c .before .before .before .before .before .before .before .before .before .before .before .before .before .before .before .before .before .before .before .before .before .before .before in file-wrote (now (s .args .file)) (s .pre) (sizes-are s) (c .before .before .before .before .before .before .before .before .before .before .before .extent-of .ensures .0) (room (c .before .before .before .before .before .before .before .before)) (c .before .before .before .before .before .put-head .ensures) (c .put-actions .ensures)
 
 returns-2 : tie.Need-returns-2
 returns-2 c =
-    let s = c .before .before .before .before .before .before .before .before .before .before .before .before .before .before .before .before .before .before .before .before .before .before .before .before .before .before .before .before .before in
-    let r = compile-wrote (now (s .args .file)) (task s .reads) (room (c .before .before .before .before .before .before .before .before .before .before .before .before)) (wrote (c .before .before)) in
+    let s = c .before .before .before .before .before .before .before .before .before .before .before .before .before .before .before .before .before .before .before .before .before .before .before .before .before in
+    let r = compile-wrote (now (s .args .file)) (task s .reads) (room (c .before .before .before .before .before .before .before .before .before .before)) (wrote (c .before .before)) in
     (sym (r .0), sym (r .1))
 
 pub compile-in-spec : {M : Type 1} → statement M
@@ -117,12 +114,9 @@ compile-in-spec =
     (λ c. search needs)
     (λ c. search needs)
     (λ c. omega (arith, begins (c .before .before .before .before .before) .fits))
-    (λ c. few (c .before .before .before .before .before .before))
     (λ c. sym (starts-long (c .before .before .before .before .before .before .before)))
     (λ c. search needs)
     note-incoming-requires
-    (λ c. search needs)
-    (λ c. search needs)
     (λ c. search needs)
     extent-of-requires
     head-length-requires
@@ -131,12 +125,10 @@ compile-in-spec =
     (λ c. search needs)
     put-head-requires
     (λ c. search needs)
-    (λ c. search needs)
-    (λ c. sym (c .before .before .before .before .before .before .before .before .before .before .before .before .before .before .before .before .before .before .before .before .before .before .before .before .before .pre .nodes-long))
-    (λ c. inside (c .before .before .before .before .before))
-    (λ c. inside (c .before .before .before .before .before))
+    (λ c. inside (c .before .before .before))
+    (λ c. inside (c .before .before .before))
     (λ c. search needs)
     put-actions-requires
-    add-t18
+    (λ c. let s = c .before .before .before .before .before .before .before .before .before .before .before .before .before .before .before .before .before .before .before .before .before .before .before .before .before in omega (arith, wrote (c .before .before) .count, compiled-length (now (s .args .file)) (task s .reads)))
     (λ c. search needs)
     returns-2)

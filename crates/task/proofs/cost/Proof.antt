@@ -1,24 +1,34 @@
 -- `task::cost` meets its contract: the file, and then the action and the state. Assumes nothing.
 use mathlib.Core.Path.{sym, ap, _∙_}
-use Rattle.facts.specs.Answers.{checkedAnswer}
-use Rattle.facts.specs.State.{checkState}
+use native.Mathlib.Omega.{arith}
+use Rattle.taskfile.specs.Answers.{countedAnswer}
+use Rattle.taskfile.specs.TaskIndexLaws.{index-ready, index-refused}
 use Rattle.taskfile.specs.Task.{cost}
 use Rattle.taskfile.specs.AnswerLaws.{ask-refused}
+use Rattle.facts.specs.State.{checkState}
 use borrow.Author.Needs.{needs}
 use Rattle.task.proofs.cost.Statement.{statement}
 use Rattle.task.proofs.cost.Tie as tie
 
 cost-in-requires : tie.Need-cost-in-requires
-cost-in-requires c κs = c .before .before .before .index-of .ensures .ready (sym (c .before .before .before .index-of .ensures .answer) ∙ ap checkedAnswer (c .before .enum-told .given .1))
+cost-in-requires c κs =
+    let i = c .before .before .before .before .before .before .before .before .before .index-in .ensures in
+    index-ready _ (i .0) (i .1) (ap countedAnswer (c .before .before .before .before .counted2 .given .1)) (omega (arith, c .before .before .before .before .before .before .before .before .starts2 .given)) (omega (arith, c .before .before .before .before .before .before .before .firsts2 .given)) (omega (arith, c .before .before .before .before .before .before .nodes2 .given))
 
 returns : tie.Need-returns
-returns c = sym (ask-refused checkState cost _ _ _ (sym (c .before .before .before .index-of .ensures .answer) ∙ ap checkedAnswer (c .before .answer .given .1)))
+returns c = sym (ask-refused checkState cost _ _ _ (index-refused _ (sym (c .before .before .before .before .before .before .index-in .ensures .0) ∙ ap countedAnswer (c .before .counted .given .1))))
 
 pub cost-spec : {M : Type 1} → statement M
 cost-spec =
     tie.close
     (tie.spec
+    (λ c. search needs)
+    (λ c. search needs)
+    (λ c. search needs)
     (λ c κs. search needs)
+    (λ c. search needs)
+    (λ c. search needs)
+    (λ c. search needs)
     (λ c. search needs)
     (λ c. search needs)
     cost-in-requires

@@ -20,38 +20,35 @@ twice : (n : ℕ) → 1 + n + n ≡ 1 + 2 * n
 twice n = omega arith
 
 -- there are starts for so many actions
-few : (s : tie.Start) → s .args .task .actions ≤ length (s .args .task .starts)
+few : (s : tie.Start) → s .args .actions ≤ length (now (s .args .starts))
 few s = omega (arith, s .pre .starts-long, starts _ (s .pre) .actions)
 
 settle-requires : tie.Need-settle-requires
-settle-requires c κs = let s = c .before .before .before .before .before .before .before .before .before .before .before .before in estimable (now (s .args .file)) (s .pre) (less-one (s .args .task .variables)) (twice (s .args .task .variables))
+settle-requires c κs = let s = c .before .before .before .before .before .before .before .before .before .before in estimable (now (s .args .file)) (s .pre) (less-one (s .args .variables)) (twice (s .args .variables))
 
 returns : tie.Need-returns
 returns c =
-    let s = c .before .before .before .before .before .before .before in
-    sym (turned-down (now (s .args .file)) (s .pre) (less-one (s .args .task .variables)) (twice (s .args .task .variables)) (now (s .args .state)) (sym (c .before .before .before .check-state .ensures) ∙ ap checkedAnswer (c .before .why .given .1)))
+    let s = c .before .before .before .before .before .before .before .before .before .before in
+    sym (turned-down (now (s .args .file)) (s .pre) (less-one (s .args .variables)) (twice (s .args .variables)) (now (s .args .state)) (sym (c .before .before .before .check-state .ensures) ∙ ap checkedAnswer (c .before .why .given .1)))
 
 returns-2 : tie.Need-returns-2
 returns-2 c =
-    let s = c .before .before .before .before .before .before .before .before .before .before .before .before .before in
-    answered (now (s .args .file)) (s .pre) (less-one (s .args .task .variables)) (twice (s .args .task .variables)) (now (s .args .state)) (sym (c .before .before .before .before .before .before .before .before .before .check-state .ensures) ∙ ap checkedAnswer (c .before .before .before .before .before .before .before .enum-told .given .1)) (c .settle .ensures)
+    let s = c .before .before .before .before .before .before .before .before .before .before .before in
+    answered (now (s .args .file)) (s .pre) (less-one (s .args .variables)) (twice (s .args .variables)) (now (s .args .state)) (sym (c .before .before .before .before .check-state .ensures) ∙ ap checkedAnswer (c .before .before .enum-told .given .1)) (c .settle .ensures)
 
 pub estimate-in-spec : {M : Type 1} → statement M
 estimate-in-spec =
     tie.close
     (tie.spec
-    (λ c. omega (arith, starts _ (c .before .before .pre) .fits))
+    (λ c. omega (arith, starts _ (c .before .before .before .before .before .pre) .fits))
     (λ c. search needs)
     (λ c. search needs)
-    (λ c. omega (arith, starts _ (c .before .before .pre) .fits))
+    (λ c. omega (arith, starts _ (c .before .before .before .before .before .pre) .fits))
     (λ c κs. search needs)
     (λ c. search needs)
     (λ c. search needs)
     (λ c. omega (arith, starts _ (c .before .before .before .before .before .before .before .before .before .pre) .fits))
-    (λ c. few (c .before .before .before .before .before .before .before .before .before))
     (λ c. sym (length-take-le _ _ (few (c .before .before .before .before .before .before .before .before .before .before))))
-    (λ c. search needs)
-    (λ c. search needs)
     settle-requires
     returns
     returns-2)

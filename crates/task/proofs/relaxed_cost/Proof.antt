@@ -1,6 +1,8 @@
 -- `task::relaxed_cost` meets its contract: the file, and then the action and the relaxed state. Assumes nothing.
 use mathlib.Core.Path.{sym, ap, _∙_}
-use Rattle.facts.specs.Answers.{checkedAnswer}
+use native.Mathlib.Omega.{arith}
+use Rattle.taskfile.specs.Answers.{countedAnswer}
+use Rattle.taskfile.specs.TaskIndexLaws.{index-ready, index-refused}
 use Rattle.taskfile.specs.AnswerLaws.{ask-refused}
 use Rattle.relaxation.specs.Relaxed.{relaxedCost}
 use Rattle.task.specs.RelaxedTask.{checkRelaxed}
@@ -9,16 +11,24 @@ use Rattle.task.proofs.relaxed_cost.Statement.{statement}
 use Rattle.task.proofs.relaxed_cost.Tie as tie
 
 relaxed-in-requires : tie.Need-relaxed-in-requires
-relaxed-in-requires c κs = let i = c .before .before .before .index-of .ensures in i .ready (sym (i .answer) ∙ ap checkedAnswer (c .before .enum-told .given .1))
+relaxed-in-requires c κs =
+    let i = c .before .before .before .before .before .before .before .before .before .index-in .ensures in
+    index-ready _ (i .0) (i .1) (ap countedAnswer (c .before .before .before .before .counted2 .given .1)) (omega (arith, c .before .before .before .before .before .before .before .before .starts2 .given)) (omega (arith, c .before .before .before .before .before .before .before .firsts2 .given)) (omega (arith, c .before .before .before .before .before .before .nodes2 .given))
 
 returns : tie.Need-returns
-returns c = sym (ask-refused checkRelaxed relaxedCost _ _ _ (sym (c .before .before .before .index-of .ensures .answer) ∙ ap checkedAnswer (c .before .answer .given .1)))
+returns c = sym (ask-refused checkRelaxed relaxedCost _ _ _ (index-refused _ (sym (c .before .before .before .before .before .before .index-in .ensures .0) ∙ ap countedAnswer (c .before .counted .given .1))))
 
 pub relaxed-cost-spec : {M : Type 1} → statement M
 relaxed-cost-spec =
     tie.close
     (tie.spec
+    (λ c. search needs)
+    (λ c. search needs)
+    (λ c. search needs)
     (λ c κs. search needs)
+    (λ c. search needs)
+    (λ c. search needs)
+    (λ c. search needs)
     (λ c. search needs)
     (λ c. search needs)
     relaxed-in-requires

@@ -1,22 +1,32 @@
 -- `task::run` meets its contract: the file, and then the run. Assumes nothing.
 use mathlib.Core.Path.{sym, ap, _∙_}
-use Rattle.facts.specs.Answers.{checkedAnswer}
+use native.Mathlib.Omega.{arith}
+use Rattle.taskfile.specs.Answers.{countedAnswer}
+use Rattle.taskfile.specs.TaskIndexLaws.{index-ready, index-refused}
 use Rattle.taskfile.specs.AnswerLaws.{run-refused}
 use borrow.Author.Needs.{needs}
 use Rattle.task.proofs.run.Statement.{statement}
 use Rattle.task.proofs.run.Tie as tie
 
 run-in-requires : tie.Need-run-in-requires
-run-in-requires c κs = c .before .before .before .index-of .ensures .ready (sym (c .before .before .before .index-of .ensures .answer) ∙ ap checkedAnswer (c .before .enum-told .given .1))
+run-in-requires c κs =
+    let i = c .before .before .before .before .before .before .before .before .before .index-in .ensures in
+    index-ready _ (i .0) (i .1) (ap countedAnswer (c .before .before .before .before .counted2 .given .1)) (omega (arith, c .before .before .before .before .before .before .before .before .starts2 .given)) (omega (arith, c .before .before .before .before .before .before .before .firsts2 .given)) (omega (arith, c .before .before .before .before .before .before .nodes2 .given))
 
 returns : tie.Need-returns
-returns c = sym (run-refused _ _ (sym (c .before .before .before .index-of .ensures .answer) ∙ ap checkedAnswer (c .before .answer .given .1)))
+returns c = sym (run-refused _ _ (index-refused _ (sym (c .before .before .before .before .before .before .index-in .ensures .0) ∙ ap countedAnswer (c .before .counted .given .1))))
 
 pub run-spec : {M : Type 1} → statement M
 run-spec =
     tie.close
     (tie.spec
+    (λ c. search needs)
+    (λ c. search needs)
+    (λ c. search needs)
     (λ c κs. search needs)
+    (λ c. search needs)
+    (λ c. search needs)
+    (λ c. search needs)
     (λ c. search needs)
     (λ c. search needs)
     run-in-requires
