@@ -1,6 +1,6 @@
 -- Diagrams in place: what code does that goes over the bytes of a file, without reading it into values, and what the index of a file holds.
 use mathlib.Core.Path.{_≡_}
-use Prim.Native.Nat.{ℕ, zero, suc, _+_, _-_, _<_}
+use Prim.Native.Nat.{ℕ, zero, suc, _+_, _-_, _≤_, _<_}
 use mathlib.Core.Bool.{true, false}
 use mathlib.Core.List.{List}
 use lib.Dec.{leb, ltb}
@@ -31,6 +31,14 @@ module _ (f sizes : List ℕ) (m : ℕ) (offsets : List ℕ) where
   nodesRise j (suc count) = do
     _ ← targetsRise (getD f (getD offsets j 0) 0) (getD sizes (getD f (getD offsets j 0) 0) 0) (getD offsets j 0 + 1)
     nodesRise (suc j) count
+
+-- the same by a row that has the variable of each node: that of node k, of m, and for the terminal the number of variables
+unfoldable pub levelBy : ℕ → ℕ → List ℕ → ℕ → ℕ
+levelBy variables m levels k = elim (leb k m) [ true ↦ getD levels k 0 | false ↦ variables ]
+
+-- `levels` has the variable of each of m nodes that begin at these offsets, by its number; at 0 stands the first one's
+pub record Levels (f : List ℕ) (m : ℕ) (offsets levels : List ℕ) : Type 0 where
+  pub level : (k : ℕ) → k ≤ m → getD f (getD offsets (k - 1) 0) 0 ≡ getD levels k 0
 
 -- ---- what the index holds
 

@@ -22,7 +22,7 @@ use Rattle.facts.specs.EachLaws.{next-snoc, each-on, each-stops, each-at, each-
 use Rattle.facts.specs.FieldLaws.{Counted, byte-ends, byte-wrong, byte-good, number-reads, field-refused, field-good, count-read}
 use Rattle.taskfile.specs.Task.{Edge, Node, level}
 use Rattle.taskfile.specs.TaskFile.{edgeBytes, nodeBytes, checkTargets, checkRising, readVariable, readTarget, readEdge, readEdges, readNode, readNodes, readDiagram}
-use Rattle.taskfile.specs.InPlace.{levelAt, targetsRise, nodesRise, readFirst, Marked, diagramAt, Placed}
+use Rattle.taskfile.specs.InPlace.{levelAt, targetsRise, nodesRise, levelBy, Levels, readFirst, Marked, diagramAt, Placed}
 use Rattle.taskfile.specs.DiagramReadLaws.{edge-read, node-read, diagram-read}
 
 -- ---- targets ahead of node i, of m
@@ -102,14 +102,30 @@ module _ (f : List ℕ) where
 
 -- ---- the ways in which the checks in place can go
 
-module _ (f sizes : List ℕ) (m : ℕ) (offsets : List ℕ) where
-  pub level-terminal : (k : ℕ) → m < k → levelAt f sizes m offsets k ≡ length sizes
-  unfolding levelAt
-  level-terminal k l = rw (lt-leb k m l, levelAt)
+pub level-terminal : (variables m : ℕ) (levels : List ℕ) (k : ℕ) → m < k → levelBy variables m levels k ≡ variables
+unfolding levelBy
+level-terminal variables m levels k l = rw (lt-leb k m l, levelBy)
 
-  pub level-node : (k : ℕ) → k ≤ m → levelAt f sizes m offsets k ≡ getD f (getD offsets (k - 1) 0) 0
+pub level-node : (variables m : ℕ) (levels : List ℕ) (k : ℕ) → k ≤ m → levelBy variables m levels k ≡ getD levels k 0
+unfolding levelBy
+level-node variables m levels k l = rw (le-leb k m l, levelBy)
+
+module _ (f sizes : List ℕ) (m : ℕ) (offsets : List ℕ) where
+  level-last : (k : ℕ) → m < k → levelAt f sizes m offsets k ≡ length sizes
   unfolding levelAt
-  level-node k l = rw (le-leb k m l, levelAt)
+  level-last k l = rw (lt-leb k m l, levelAt)
+
+  level-own : (k : ℕ) → k ≤ m → levelAt f sizes m offsets k ≡ getD f (getD offsets (k - 1) 0) 0
+  unfolding levelAt
+  level-own k l = rw (le-leb k m l, levelAt)
+
+  -- by the row that was noted
+  pub level-by : {levels : List ℕ} → Levels f m offsets levels → (k : ℕ) → levelBy (length sizes) m levels k ≡ levelAt f sizes m offsets k
+  level-by {levels} h k =
+      elim (decLe k m) [
+        | yes l ↦ level-node (length sizes) m levels k l ∙ sym (h .level k l) ∙ sym (level-own k l)
+        | no l ↦ level-terminal (length sizes) m levels k (lt-of-not-le l) ∙ sym (level-last k (lt-of-not-le l))
+      ]
 
   module _ (v at : ℕ) where
     pub targets-fall : (left : ℕ) → 0 < left → levelAt f sizes m offsets (getD f at 0) ≤ v → targetsRise f sizes m offsets v left at ≡ refused 6 at
@@ -234,8 +250,8 @@ module _ (f sizes : List ℕ) (m from : ℕ) {nodes : List Node} {end : ℕ} (h 
     | yes g ↦
         let none : Node = record { var = 0; edges = [] } in
         let a = at-getD nodes (t - 1) none (omega (arith, nodes-length f sizes m from h)) in
-        var-at (length sizes) a ∙ sym (var-noted a) ∙ sym (level-node f sizes m offsets t g)
-    | no g ↦ var-past (length sizes) nodes (t - 1) (omega (arith, nodes-length f sizes m from h, lt-of-not-le g)) ∙ sym (level-terminal f sizes m offsets t (lt-of-not-le g))
+        var-at (length sizes) a ∙ sym (var-noted a) ∙ sym (level-own f sizes m offsets t g)
+    | no g ↦ var-past (length sizes) nodes (t - 1) (omega (arith, nodes-length f sizes m from h, lt-of-not-le g)) ∙ sym (level-last f sizes m offsets t (lt-of-not-le g))
   ]
 
   targets-same : (v i x d at : ℕ) {edges : List Edge} {e : ℕ} → each (λ (x : ℕ). readEdge f m i) (upFrom x d) at ≡ accepted (edges, e)

@@ -16,13 +16,16 @@ ghost use Rattle.facts.specs.Answers.{pastAnswer, checkedAnswer};
 ghost use Rattle.facts.specs.Fields.{nextOf};
 ghost use Rattle.taskfile.specs.TaskFile.{edgeBytes, readTarget, readEdge, readEdges, readNode, readNodes};
 ghost use Rattle.taskfile.specs.Answers.{drawnAnswer};
-ghost use Rattle.taskfile.specs.InPlace.{levelAt, targetsRise, nodesRise, Marked, diagramAt, Placed};
+ghost use Rattle.taskfile.specs.InPlace.{targetsRise, nodesRise, levelBy, Levels, Marked, diagramAt, Placed};
 
 // The bytes of a weight.
 const WEIGHT_BYTES: usize = 2;
 
 // The bytes of an edge, target and weight.
 const EDGE_BYTES: usize = 3;
+
+// A row by number has an entry for each node, and one at 0.
+const LEVELS: usize = Task::MAX_NODES + 1;
 
 // Past a diagram, which may have as many nodes as are not used yet; its nodes' offsets are noted after those that are used.
 pub fn diagram_end(
@@ -173,7 +176,29 @@ fn ahead(target: usize, m: usize, i: usize) -> bool
 
 // Whether the variable rises along each edge of the m nodes at these offsets.
 fn nodes_rise(file: &[u8], sizes: &[u8], m: usize, offsets: &[usize]) -> Checked
-    requires { ⌜ ((j : ℕ) → j < m → getD (now offsets) j 0 < length (now file)) ⌝ }
+    requires { ⌜ ((j : ℕ) → j < m → getD (now offsets) j 0 < length (now file)) × (m ≤ 64) ⌝ }
+    ensures { λ r. ⌜ checkedAnswer r ≡ nodesRise (now (file .entry)) (now (sizes .entry)) m (now (offsets .entry)) 0 m ⌝ }
+{
+    let mut levels = [0; LEVELS];
+    note_levels(file, m, offsets, &mut levels);
+    edges_rise(file, sizes, m, offsets, &levels)
+}
+
+// Notes the variable of each of the m nodes at these offsets by the node's number; at 0 stands the first one's.
+fn note_levels(file: &[u8], m: usize, offsets: &[usize], levels: &mut [u8])
+    requires { ⌜ m < length (now levels) ⌝ }
+    ensures { λ r. ⌜ Levels (now (file .entry)) m (now (offsets .entry)) (now (levels .exit)) ⌝ }
+{
+    let mut k: usize = 0;
+    while k <= m {
+        levels[k] = byte_at(file, offset_at(offsets, previous(k)));
+        k += 1;
+    }
+}
+
+// Whether the variable rises along each edge of the m nodes at these offsets, by the variables noted for them.
+fn edges_rise(file: &[u8], sizes: &[u8], m: usize, offsets: &[usize], levels: &[u8]) -> Checked
+    requires { ⌜ ((j : ℕ) → j < m → getD (now offsets) j 0 < length (now file)) × Levels (now file) m (now offsets) (now levels) ⌝ }
     ensures { λ r. ⌜ checkedAnswer r ≡ nodesRise (now (file .entry)) (now (sizes .entry)) m (now (offsets .entry)) 0 m ⌝ }
 {
     let mut j: usize = 0;
@@ -185,6 +210,7 @@ fn nodes_rise(file: &[u8], sizes: &[u8], m: usize, offsets: &[usize]) -> Checked
             sizes,
             m,
             offsets,
+            levels,
             variable,
             byte_at(sizes, variable as usize),
             at + 1,
@@ -205,17 +231,18 @@ fn targets_rise(
     sizes: &[u8],
     m: usize,
     offsets: &[usize],
+    levels: &[u8],
     v: u8,
     count: u8,
     from: usize,
 ) -> Checked
-    requires { ⌜ from ≤ length (now file) ⌝ }
+    requires { ⌜ (from ≤ length (now file)) × Levels (now file) m (now offsets) (now levels) ⌝ }
     ensures { λ r. ⌜ checkedAnswer r ≡ targetsRise (now (file .entry)) (now (sizes .entry)) m (now (offsets .entry)) v count from ⌝ }
 {
     let mut at = from;
     let mut left = count;
     while 0 < left {
-        if level_at(file, sizes, m, offsets, byte_at(file, at) as usize) <= v as usize {
+        if level_of(sizes, m, levels, byte_at(file, at) as usize) <= v as usize {
             return Checked::Refused(Refusal::Diagram(at));
         }
         at += EDGE_BYTES;
@@ -225,13 +252,13 @@ fn targets_rise(
 }
 
 // The variable of node k, of m, and for the terminal the number of variables.
-fn level_at(file: &[u8], sizes: &[u8], m: usize, offsets: &[usize], k: usize) -> usize
-    ensures { λ r. ⌜ r ≡ levelAt (now (file .entry)) (now (sizes .entry)) m (now (offsets .entry)) k ⌝ }
+fn level_of(sizes: &[u8], m: usize, levels: &[u8], k: usize) -> usize
+    ensures { λ r. ⌜ r ≡ levelBy (length (now (sizes .entry))) m (now (levels .entry)) k ⌝ }
 {
     if m < k {
         return sizes.len();
     }
-    byte_at(file, offset_at(offsets, previous(k))) as usize
+    byte_at(levels, k) as usize
 }
 
 // The number before k, and 0 for 0.

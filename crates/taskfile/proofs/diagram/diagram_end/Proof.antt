@@ -33,7 +33,8 @@ nodes-rise-requires : tie.Need-nodes-rise-requires
 nodes-rise-requires c κs =
     let s = c .before .before .before .before .before .before .before .before .before .before .before .before .before .before .before .before in
     let k = marked-part _ _ _ _ (s .args .used) (now (s .args .offsets)) (omega (arith, s .pre)) (c .before .before .before .before .before .before .before .nodes-end .ensures .1) in
-    all-inside _ _ _ _ (count-is (c .before .before .before .before .before .before .before .before .before .before)) (nodes-are (c .before .before .before)) k
+    let count = count-is (c .before .before .before .before .before .before .before .before .before .before) in
+    (all-inside _ _ _ _ count (nodes-are (c .before .before .before)) k, omega (arith, count-most _ (now (s .args .sizes)) _ _ count))
 
 returns : tie.Need-returns
 returns c =

@@ -5,39 +5,36 @@ use denote.Ref.{now}
 use lib.ListN.{getD}
 use Rattle.taskfile.specs.TaskFile.{edgeBytes}
 use Rattle.taskfile.specs.InPlace.{levelAt, targetsRise}
-use Rattle.taskfile.specs.InPlaceLaws.{targets-fall, targets-on, targets-done}
+use Rattle.taskfile.specs.InPlaceLaws.{level-by, targets-fall, targets-on, targets-done}
 use borrow.Author.Needs.{needs}
 use native.Mathlib.Omega.{arith}
 use Rattle.taskfile.proofs.diagram.targets_rise.Statement.{statement}
 use Rattle.taskfile.proofs.diagram.targets_rise.Tie as tie
 
 abbrev Inv-loop : tie.InvT-loop
-Inv-loop file sizes m offsets v count from at₀ left₀ at left =
+Inv-loop file sizes m offsets levels v count from at₀ left₀ at left =
     (left ≤ count) × (at + edgeBytes * left ≡ from + edgeBytes * count) × (targetsRise file sizes m offsets v count from ≡ targetsRise file sizes m offsets v left at)
 
 abbrev μ-loop : tie.MeasureT-loop
-μ-loop file sizes m offsets v count from at₀ left₀ at left = left
+μ-loop file sizes m offsets levels v count from at₀ left₀ at left = left
 
 loop-holds : tie.Need-loop-holds Inv-loop μ-loop
 loop-holds c = (omega arith, refl, refl)
 
 -- the level of the target here
-level-is : (c : tie.After-level-at Inv-loop μ-loop) → let a = c .before .before .before .before .before .before .before .args in let l = c .before .before .before .loop in
-    c .level-at .result ≡ levelAt (now (a .file)) (now (a .sizes)) (a .m) (now (a .offsets)) (getD (now (a .file)) (l .at) 0)
+level-is : (c : tie.After-level-of Inv-loop μ-loop) → let a = c .before .before .before .before .before .before .before .before .args in c .level-of .result ≡ levelAt (now (a .file)) (now (a .sizes)) (a .m) (now (a .offsets)) (getD (now (a .file)) (c .before .before .before .loop .at) 0)
 level-is c =
-    let a = c .before .before .before .before .before .before .before .args in
-    c .level-at .ensures ∙ ap (levelAt (now (a .file)) (now (a .sizes)) (a .m) (now (a .offsets))) (c .before .byte-at .ensures)
+    let a = c .before .before .before .before .before .before .before .before .args in
+    c .level-of .ensures ∙ level-by (now (a .file)) (now (a .sizes)) (a .m) (now (a .offsets)) (c .before .before .before .before .before .before .before .before .pre .1) (c .before .byte-at .result) ∙ ap (levelAt (now (a .file)) (now (a .sizes)) (a .m) (now (a .offsets))) (c .before .byte-at .ensures)
 
 returns : tie.Need-returns Inv-loop μ-loop
-returns c =
-    let l = c .before .before .before .before .loop in
-    sym (l .inv .2 ∙ targets-fall _ _ _ _ _ _ _ (c .before .before .before .loop-test .taken) (omega (arith, level-is (c .before), c .if1 .taken)))
+returns c = sym (c .before .before .before .before .loop .inv .2 ∙ targets-fall _ _ _ _ _ _ _ (c .before .before .before .loop-test .taken) (omega (arith, level-is (c .before), c .if1 .taken)))
 
 add-at : tie.Need-add-at Inv-loop μ-loop
 add-at c =
-    let s = c .before .before .before .before .before .before .before .before in
+    let s = c .before .before .before .before .before .before .before .before .before in
     let l = c .before .before .before .before .loop in
-    omega (arith, l .inv .1, l .inv .0, s .pre, s .good, s .fits)
+    omega (arith, l .inv .1, l .inv .0, s .pre .0, s .good, s .fits)
 
 loop-again : tie.Need-loop-again Inv-loop μ-loop
 loop-again c =
