@@ -18,7 +18,7 @@ use Rattle.estimate.specs.Number.{Number, exact, never, lesser, WithinCa
 use Rattle.estimate.specs.NumberLaws.{sum-within, lesser-within}
 use Rattle.estimate.specs.Facts.{startNumber}
 use Rattle.estimate.specs.Rounds.{lowered, roundOf, settled, Lowering}
-use Rattle.estimate.specs.RoundsLaws.{lowered-at, lowered-length, lowered-zero, round-lowering, round-falls, settled-on, settled-still, settled-agrees}
+use Rattle.estimate.specs.RoundsLaws.{lowered-at, lowered-length, lowered-zero, round-lowering, settled-on, settled-still, settled-agrees}
 use Rattle.estimate.specs.Additive.{factCount, listed, factNumber, has, sumFrom, Offer, offeredBy, offered, Achiever, offerOf, offersBy, offersOf, additiveRound, startNumbers, lastNumbers, additive, estimateFile}
 use Rattle.estimate.specs.ListedLaws.{listed-length, factPlace, fact-placed, fact-listed, all-listed, sum-from-within}
 
@@ -101,10 +101,6 @@ module _ {sizes : List ℕ} {achievers : List Achiever} {s : List ℕ} {numbers 
         within = additive-lowering sizes achievers .within numbers (g .within);
         same = g .same ∙ settled-on (additive-lowering sizes achievers) numbers (g .within);
       }
-
-  -- the measure: any other round lowers the sum of all ranks
-  pub settling-falls : additiveRound sizes achievers numbers ≢ numbers → total rank (additiveRound sizes achievers numbers) < total rank numbers
-  settling-falls changed = round-falls (additive-lowering sizes achievers) numbers (g .within) changed
 
 -- ---- the answer
 

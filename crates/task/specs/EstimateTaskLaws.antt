@@ -64,7 +64,7 @@ module _ (f : List ℕ) {i : Index} (ready : Ready f i) where
         let limits = task-limits f reads in
         subst (λ (ds : List ℕ). Estimable f ds goal begins (i .firsts) (i .nodes)) (sym (sizes-there f ready e))
         (record {
-          room = roomy (t .sizes) (limits .variables) (omega arith) (limits .sizes) (omega arith) refl;
+          room = roomy (t .sizes) (limits .variables) (omega arith) (limits .sizes) (omega arith) (omega arith);
           goal-is = subst (WfPartial (t .sizes)) (sym goal-is) (task-wf f reads .goal);
           action = priceable;
         })

@@ -1,6 +1,9 @@
 // The rounds of the estimate of a task, in place.
 use crate::price::least_cost;
 use estimate::Est;
+use estimate::ranks::NEVER;
+use estimate::ranks::ranked;
+use estimate::ranks::sum_rank;
 use facts::number::offset_within;
 ghost use mathlib.Core.Path.{_≡_};
 ghost use Prim.Native.Nat.{ℕ, _<_};
@@ -11,6 +14,9 @@ ghost use Rattle.estimate.specs.Number.{number};
 ghost use Rattle.estimate.specs.Additive.{offerOf, offersBy, additive};
 ghost use Rattle.estimate.specs.Ranks.{rankNumber, HasRanks, afterOffer, afterOffers};
 ghost use Rattle.relaxation.specs.EstimateInPlace.{achieverIn, achieversIn, Priceable, Estimable};
+
+// The ranks have room for so many facts, those of 24 variables.
+const FACTS: usize = 1584;
 
 // Rounds from a state until one changes nothing, and then the goal facts' sum: `action_at` has the offset of each action, `first_node` the index of its
 // first node in `node_at`, and the goal starts at `goal`.
@@ -26,7 +32,7 @@ pub fn settle(
     requires { ⌜ Estimable (now file) (now sizes) goal (now «action_at») (now «first_node») (now «node_at») ⌝ }
     ensures { λ r. ⌜ number r ≡ additive (now (sizes .entry)) (achieversIn (now (file .entry)) (now (sizes .entry)) (now («action_at» .entry)) (now («first_node» .entry)) (now («node_at» .entry)) 0 (length (now («action_at» .entry)))) (partialAt (now (file .entry)) goal) (now (state .entry)) ⌝ }
 {
-    let mut old = [estimate::ranks::NEVER; estimate::FACTS];
+    let mut old = [NEVER; FACTS];
     estimate::ranks::start_ranks(state, &mut old);
     let mut new = old; // the one copy; a round changes the new numbers in place
     loop {
@@ -34,7 +40,7 @@ pub fn settle(
         if estimate::ranks::take_over(sizes, &new, &mut old) {
             continue;
         }
-        return estimate::offers::sum_at(file, goal, sizes.len(), &old);
+        return ranked(estimate::offers::sum_at(file, goal, sizes.len(), &old));
     }
 }
 
@@ -64,6 +70,9 @@ fn offer_action(file: &[u8], sizes: &[u8], at: usize, nodes: &[usize], old: &[u6
 {
     let effect = at + facts::partial::length_at(file, at);
     let known = estimate::offers::sum_at(file, at, sizes.len(), old);
-    let offer = estimate::sum(known, least_cost(file, sizes, at, nodes, old));
+    if NEVER <= known {
+        return; // never is offered to no effect
+    }
+    let offer = sum_rank(known, least_cost(file, sizes, at, nodes, old));
     estimate::offers::lower_at(file, effect, offer, new);
 }

@@ -1,5 +1,4 @@
--- `estimate::ranks::start_ranks` meets its contract: where no number was set, the ranks have the numbers of as many variables as are read. Assumes
--- nothing.
+-- `estimate::ranks::start_ranks` meets its contract: the ranks are lowered to the start of as many variables as are read. Assumes nothing.
 use mathlib.Core.Path.{_≡_, refl, _∙_, subst}
 use Prim.Native.Nat.{ℕ, _-_, _≤_}
 use mathlib.Core.List.{List}
@@ -8,33 +7,34 @@ use lib.ListN.{length, getD, take, length-set}
 use lib.Seq.{take-all}
 use denote.Ref.{now}
 use borrow.Author.Needs.{needs}
-use Rattle.estimate.specs.Facts.{mostVariables, startNumber}
+use Rattle.estimate.specs.Facts.{mostVariables}
 use Rattle.estimate.specs.FactsLaws.{start-own}
-use Rattle.estimate.specs.Ranks.{HasRanks, Unset}
+use Rattle.estimate.specs.Ranks.{rankNumber, HasRanks, startedOver}
 use Rattle.estimate.specs.RanksLaws.{started-none, started-stored, started-passed, started-full}
 use Rattle.estimate.proofs.ranks.start_ranks.Statement.{statement}
 use Rattle.estimate.proofs.ranks.start_ranks.Tie as tie
 
 abbrev Inv-loop : tie.InvT-loop
-Inv-loop state ranks₀ numbers v₀ ranks v = (v ≤ mostVariables) × (length ranks ≡ length ranks₀) × (Unset ranks₀ → HasRanks ranks (startNumber (take v state)))
+Inv-loop state ranks₀ numbers v₀ ranks v = (v ≤ mostVariables) × (length ranks ≡ length ranks₀) × HasRanks ranks (startedOver (rankNumber ranks₀) (take v state))
 
 abbrev μ-loop : tie.MeasureT-loop
 μ-loop state ranks₀ numbers v₀ ranks v = mostVariables - v
 
 returns : tie.Need-returns Inv-loop μ-loop
-returns c u =
+returns c =
     let l = c .before .before .loop in
-    subst (λ (s : List ℕ). HasRanks (l .ranks) (startNumber s)) (take-all (l .v) _ (c .if1 .taken)) (l .inv .2 u)
+    let a = c .before .before .before .before .before .before .args in
+    subst (λ (s : List ℕ). HasRanks (l .ranks) (startedOver (rankNumber (now (a .ranks))) s)) (take-all (l .v) _ (c .if1 .taken)) (l .inv .2)
 
 loop-again : tie.Need-loop-again Inv-loop μ-loop
 loop-again c =
     let l = c .before .before .before .before .loop in
-    (omega arith, l .inv .1, λ u. started-passed _ (l .v) (l .inv .2 u) (omega arith) (λ room. omega (arith, c .if2 .taken, room .value)))
+    (omega arith, l .inv .1, started-passed _ _ (l .v) (l .inv .2) (omega arith) (λ room. omega (arith, c .if2 .taken, room .value)))
 
 loop-again-2 : tie.Need-loop-again-2 Inv-loop μ-loop
 loop-again-2 c =
     let l = c .before .before .before .before .before .loop in
-    (omega arith, l .inv .1, λ u. started-passed _ (l .v) (l .inv .2 u) (omega arith) (λ room. omega (arith, c .if3 .taken, room .place)))
+    (omega arith, l .inv .1, started-passed _ _ (l .v) (l .inv .2) (omega arith) (λ room. omega (arith, c .if3 .taken, room .place)))
 
 loop-again-3 : tie.Need-loop-again-3 Inv-loop μ-loop
 loop-again-3 c =
@@ -45,8 +45,7 @@ loop-again-3 c =
     let d = getD s (l .v) 0 in (
       omega arith,
       simp length-set (l .inv .1),
-      λ u.
-          started-stored s (l .v) (l .inv .2 u) refl (omega arith) (record { variable = omega arith; value = omega arith; place = omega arith }) _
+      started-stored _ s (l .v) (l .inv .2) refl (omega arith) (record { variable = omega arith; value = omega arith; place = omega arith }) _
           (c .rank .ensures ∙ numbers .at (l .v) d (omega arith) (omega arith) ∙ start-own s (l .v) (omega arith)),
     )
 
@@ -57,7 +56,7 @@ start-ranks-spec =
     Inv-loop
     μ-loop
     (λ c κs. search needs)
-    (λ c. (omega arith, refl, started-none))
+    (λ c. (omega arith, refl, started-none _))
     (λ c. c .before .before .loop .inv .1)
     returns
     (λ c. omega arith)
@@ -79,4 +78,4 @@ start-ranks-spec =
     (λ c. omega arith)
     loop-again-3
     (λ c. c .before .loop .inv .1)
-    (λ c u. started-full _ (c .before .loop .v) (c .before .loop .inv .2 u) (omega arith)))
+    (λ c. started-full _ _ (c .before .loop .v) (c .before .loop .inv .2) (omega arith)))
