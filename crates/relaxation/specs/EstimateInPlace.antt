@@ -36,7 +36,7 @@ pub record Priceable (f sizes : List ℕ) (at : ℕ) (offsets : List ℕ) : Type
 abbrev pub taskFacts : ℕ
 taskFacts = 1584
 
--- Domain sizes, goal and actions as they stand in a file, well-formed, so that rounds end on their estimate: `actions` has the offset of each action,
+-- Domain sizes, goal and actions as they stand in a file, well-formed, so that offers in turn end on their estimate: `actions` has the offset of each action,
 -- `firsts` the index of its first node in `nodes`.
 pub record Estimable (f sizes : List ℕ) (goal : ℕ) (actions firsts nodes : List ℕ) : Type 0 where
   pub room : Roomy sizes taskFacts

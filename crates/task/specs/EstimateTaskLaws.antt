@@ -13,7 +13,7 @@ use Rattle.facts.specs.WellFormed.{WfPartial}
 use Rattle.estimate.specs.Number.{Number}
 use Rattle.estimate.specs.Additive.{additive}
 use Rattle.estimate.specs.AdditiveLaws.{estimate-refused, estimate-turned-down, estimate-answers}
-use Rattle.estimate.specs.LoopLaws.{roomy}
+use Rattle.estimate.specs.RanksLaws.{roomy}
 use Rattle.taskfile.specs.declared.Task.{Task as Index}
 use Rattle.taskfile.specs.Task.{Action, Task, WfAction}
 use Rattle.taskfile.specs.TaskFile.{readTask, checkTask}

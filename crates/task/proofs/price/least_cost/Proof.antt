@@ -36,12 +36,13 @@ loop-again c =
 
 returns : tie.Need-returns Inv-loop μ-loop
 returns c =
-    let s = c .before .before .before .before .before .before .before .before in
-    let d = c .before .before .before .diagram-at in
-    let l = c .before .before .loop in
+    let end = c .before .before in
+    let l = end .before .loop in
+    let d = end .before .before .diagram-at in
+    let s = end .before .before .before .before .before .before .before in
     c .sum-rank .ensures
     ∙ ap (λ a. sum a (ranked (getD (l .least) 1 0))) (ranked-exact (d .result .incoming) (omega (arith, d .ensures .2)))
-    ∙ ranked-end (s .pre) (rankNumber (now (s .args .ranks))) (d .ensures .0) (d .ensures .2) (omega (arith, c .before .loop-test .left)) (l .inv .2)
+    ∙ ranked-end (s .pre) (rankNumber (now (s .args .ranks))) (d .ensures .0) (d .ensures .2) (omega (arith, end .loop-test .left)) (l .inv .2)
 
 pub least-cost-spec : {M : Type 1} → statement M
 least-cost-spec =
@@ -60,7 +61,7 @@ least-cost-spec =
     (λ c. omega (arith, c .before .before .before .loop-test .taken))
     (λ c. omega (arith, c .before .before .before .loop-test .taken))
     loop-again
-    (λ c. omega (arith, c .before .before .diagram-at .ensures .2))
+    (λ c. omega (arith, c .before .before .before .diagram-at .ensures .2))
     (λ c. search needs)
     (λ c κs. search needs)
     returns)

@@ -12,11 +12,12 @@ use Rattle.task.proofs.price.rank_for.Tie as tie
 
 returns : tie.Need-returns
 returns c =
-    let a = c .before .before .before .before .before .before .before .before .args in
-    let e = c .before .before .before .before .edge-for in
-    let later = c .before .before .before .rank-at .ensures ∙ ap (λ (t : ℕ). getD (now (a .least)) t 0) (e .ensures .0) in
+    let known = c .before .before in
+    let e = known .before .before .before .edge-for in
+    let a = known .before .before .before .before .before .before .before .args in
+    let later = known .before .before .rank-at .ensures ∙ ap (λ (t : ℕ). getD (now (a .least)) t 0) (e .ensures .0) in
     c .sum-rank2 .ensures
-    ∙ ap₂ sum (ranked-low (e .result .weight) (omega (arith, e .ensures .2)) ∙ ap capped (e .ensures .1)) (c .before .sum-rank .ensures ∙ ap₂ sum (c .before .before .rank-of .ensures) (ap ranked later))
+    ∙ ap₂ sum (ranked-low (e .result .weight) (omega (arith, e .ensures .2)) ∙ ap capped (e .ensures .1)) (known .sum-rank .ensures ∙ ap₂ sum (known .before .rank-of .ensures) (ap ranked later))
 
 pub rank-for-spec : {M : Type 1} → statement M
 rank-for-spec =
@@ -26,6 +27,6 @@ rank-for-spec =
     (λ c κs. search needs)
     (λ c κs. search needs)
     (λ c κs. search needs)
-    (λ c. omega (arith, c .before .before .before .edge-for .ensures .2))
+    (λ c. omega (arith, c .before .before .before .before .edge-for .ensures .2))
     (λ c κs. search needs)
     returns)

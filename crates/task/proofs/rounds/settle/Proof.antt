@@ -1,52 +1,54 @@
--- `task::rounds::settle` meets its contract: rounds have led to the old numbers, and each that changes one lowers the sum of all ranks.
--- Assumes nothing.
+-- `task::rounds::settle` meets its contract: the numbers are on the way from the start to the last round's, each turn in which a rank falls lowers the
+-- sum of all ranks, and one in which none falls leaves the last numbers. Assumes nothing.
 use mathlib.Core.Path.{_≡_, _∙_}
 use lib.ListN.{length}
+use denote.Ref.{now}
 use borrow.Author.Needs.{needs}
 use Rattle.facts.specs.Lists.{total}
-use Rattle.estimate.specs.Number.{rank}
-use Rattle.estimate.specs.Ranks.{rankList}
-use Rattle.estimate.specs.RanksLaws.{unset-never}
-use Rattle.estimate.specs.LoopLaws.{roomy-same, Between, between-start, between-on, between-falls, between-end}
+use Rattle.estimate.specs.Ranks.{rankNumber}
+use Rattle.estimate.specs.RanksLaws.{roomy-same, started-fresh}
+use Rattle.estimate.specs.InTurn.{Nearing}
+use Rattle.estimate.specs.InTurnLaws.{turn-fell, nearing-start, nearing-on, nearing-end}
 use Rattle.relaxation.specs.EstimateInPlace.{achieversIn, taskFacts}
-use Rattle.relaxation.specs.EstimateInPlaceLaws.{achievers-wf}
+use Rattle.relaxation.specs.EstimateInPlaceLaws.{achievers-wf, actions-supported}
 use Rattle.task.proofs.rounds.settle.Statement.{statement}
 use Rattle.task.proofs.rounds.settle.Tie as tie
 
 abbrev Inv-loop : tie.InvT-loop
-Inv-loop file sizes goal actions firsts nodes state old₀ new₀ old new =
-    (length old ≡ taskFacts) × (length new ≡ taskFacts) × Between sizes (achieversIn file sizes actions firsts nodes 0 (length actions)) state old new
+Inv-loop file sizes goal actions firsts nodes state ranks₀ ranks = (length ranks ≡ taskFacts) × Nearing sizes (achieversIn file sizes actions firsts nodes 0 (length actions)) state (rankNumber ranks)
 
 abbrev μ-loop : tie.MeasureT-loop
-μ-loop file sizes goal actions firsts nodes state old₀ new₀ old new = total rank (rankList sizes old)
+μ-loop file sizes goal actions firsts nodes state ranks₀ ranks = total (λ r. r) ranks
 
 loop-holds : tie.Need-loop-holds Inv-loop μ-loop
 loop-holds c =
-    let ready = c .before .before .before .before .before .before .before .before .before .pre in
-    (c .old2 .given, c .old2 .given, between-start (roomy-same (ready .room) (c .old2 .given)) (c .before .start-ranks .ensures (unset-never taskFacts)))
+    let s = c .before .before .before .before .before .before .before .before .before in
+    let a = s .args in
+    (c .ranks2 .given, nearing-start _ _ _ (achievers-wf (s .pre)) (actions-supported (now (a .file)) (now (a .sizes)) (now (a .action-at)) (now (a .first-node)) (now (a .node-at))) (roomy-same (s .pre .room) (c .ranks2 .given)) (started-fresh taskFacts (now (a .state)) (c .before .start-ranks .ensures)))
 
 loop-less : tie.Need-loop-less Inv-loop μ-loop
-loop-less c =
-    let l = c .before .before .before .before .before .before .before .before .before .loop in
-    let ready = c .before .before .before .before .before .before .before .before .before .before .before .before .before .before .before .before .before .before .before .pre in
-    between-falls (l .inv .2) (achievers-wf ready) (roomy-same (ready .room) (c .before .before .before .before .before .new2 .given)) (c .before .before .before .before .before .before .offer-actions .ensures)
-    (roomy-same (ready .room) (l .inv .0)) (c .before .before .take-over .ensures) (c .if1 .taken)
+loop-less c = turn-fell (c .before .before .offer-actions .ensures) .less (c .if1 .taken)
 
 loop-again : tie.Need-loop-again Inv-loop μ-loop
 loop-again c =
-    let l = c .before .before .before .before .before .before .before .before .before .loop in
-    let ready = c .before .before .before .before .before .before .before .before .before .before .before .before .before .before .before .before .before .before .before .pre in
-    let same = c .before .before .before .before .before .new2 .given in
-    (c .before .old5 .given, same, between-on (l .inv .2) (achievers-wf ready) (roomy-same (ready .room) same) (c .before .before .before .before .before .before .offer-actions .ensures) (roomy-same (ready .room) (l .inv .0)) (c .before .before .take-over .ensures))
+    let turn = c .before .before in
+    let l = turn .before .before .loop in
+    let s = turn .before .before .before .before .before .before .before .before .before .before .before .before in
+    let a = s .args in
+    let t = turn .offer-actions .ensures in
+    (turn-fell t .count ∙ l .inv .0, nearing-on _ _ _ (achievers-wf (s .pre)) (actions-supported (now (a .file)) (now (a .sizes)) (now (a .action-at)) (now (a .first-node)) (now (a .node-at))) (roomy-same (s .pre .room) (l .inv .0)) (l .inv .1) t)
 
 returns : tie.Need-returns Inv-loop μ-loop
 returns c =
-    let l = c .before .before .before .before .before .before .before .before .before .before .before .before .loop in
-    let ready = c .before .before .before .before .before .before .before .before .before .before .before .before .before .before .before .before .before .before .before .before .before .before .pre in
+    let told = c .before .before .before in
+    let turn = told .before .before in
+    let l = turn .before .before .loop in
+    let s = turn .before .before .before .before .before .before .before .before .before .before .before .before in
+    let a = s .args in
+    let t = turn .offer-actions .ensures in
     c .ranked .ensures
     ∙ c .before .sum-at .ensures
-    ∙ between-end (l .inv .2) (achievers-wf ready) (roomy-same (ready .room) (c .before .before .before .before .before .before .before .before .new2 .given)) (c .before .before .before .before .before .before .before .before .before .offer-actions .ensures)
-    (roomy-same (ready .room) (l .inv .0)) (c .before .before .before .before .before .take-over .ensures) (ready .goal-is) (c .before .before .before .if1 .left)
+    ∙ nearing-end _ _ _ (achievers-wf (s .pre)) (actions-supported (now (a .file)) (now (a .sizes)) (now (a .action-at)) (now (a .first-node)) (now (a .node-at))) (roomy-same (s .pre .room) (l .inv .0)) (l .inv .1) t (told .if1 .left) (s .pre .goal-is)
 
 pub settle-spec : {M : Type 1} → statement M
 settle-spec =
@@ -59,10 +61,6 @@ settle-spec =
     loop-holds
     (λ c. search needs)
     (λ c. search needs)
-    (λ c κs. c .before .before .before .before .before .before .before .before .before .before .before .before .pre .action)
-    (λ c. search needs)
-    (λ c. search needs)
-    (λ c κs. search needs)
     loop-less
     loop-again
     (λ c. search needs)
