@@ -7,7 +7,7 @@ use crate::VARIABLES;
 ghost use mathlib.Core.Path.{_≡_};
 ghost use Prim.Native.Nat.{min};
 ghost use Rattle.estimate.specs.Number.{number, sum, ranked};
-ghost use Rattle.estimate.specs.Ranks.{rankNumber, HasRanks, startedOver};
+ghost use Rattle.estimate.specs.Ranks.{rankNumber};
 
 // The ranks of over and of never.
 const OVER: u64 = 4294967296;
@@ -73,25 +73,4 @@ pub fn rank_of(ranks: &[u64], v: usize, d: usize) -> u64
         return NEVER;
     }
     ranks[i]
-}
-
-// Lowers ranks to those of the numbers with which the estimate from a state starts: to 0 for the facts of the state; never lowers nothing.
-pub fn start_ranks(state: &[u8], ranks: &mut [u64])
-    ensures { λ r. ⌜ HasRanks (now (ranks .exit)) (startedOver (rankNumber (now (ranks .entry))) (now (state .entry))) ⌝ }
-{
-    let numbers = crate::start(state);
-    for v in 0..VARIABLES {
-        if state.len() <= v {
-            return;
-        }
-        let d = state[v] as usize;
-        if VALUES <= d {
-            continue;
-        }
-        let i = v * VALUES + d;
-        if ranks.len() <= i {
-            continue;
-        }
-        ranks[i] = rank(numbers[i]);
-    }
 }

@@ -20,7 +20,7 @@ pub fn settle(file: &[u8], sizes: &[u8], goal: usize, offsets: &[usize], state: 
     ensures { λ r. ⌜ number r ≡ additive (now (sizes .entry)) (map (achieverAt (now (file .entry))) (now (offsets .entry))) (partialAt (now (file .entry)) goal) (now (state .entry)) ⌝ }
 {
     let mut ranks = [NEVER; estimate::FACTS];
-    estimate::ranks::start_ranks(state, &mut ranks);
+    estimate::start(state, &mut ranks);
     loop {
         if offer_steps(file, offsets, sizes.len(), &mut ranks) {
             continue;

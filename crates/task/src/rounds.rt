@@ -33,7 +33,7 @@ pub fn settle(
     ensures { λ r. ⌜ number r ≡ additive (now (sizes .entry)) (achieversIn (now (file .entry)) (now (sizes .entry)) (now («action_at» .entry)) (now («first_node» .entry)) (now («node_at» .entry)) 0 (length (now («action_at» .entry)))) (partialAt (now (file .entry)) goal) (now (state .entry)) ⌝ }
 {
     let mut ranks = [NEVER; FACTS];
-    estimate::ranks::start_ranks(state, &mut ranks);
+    estimate::start(state, &mut ranks);
     loop {
         if offer_actions(file, sizes, action_at, first_node, node_at, &mut ranks) {
             continue;
