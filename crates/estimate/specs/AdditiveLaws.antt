@@ -24,11 +24,6 @@ use Rattle.estimate.specs.ListedLaws.{listed-length, factPlace, fact-pla
 
 -- ---- a round
 
--- it keeps the length
-pub round-length : (sizes : List ℕ) (achievers : List Achiever) (numbers : List Number) → length (additiveRound sizes achievers numbers) ≡ length numbers
-unfolding additiveRound
-round-length sizes achievers numbers = lowered-length numbers (offersOf sizes achievers numbers)
-
 -- for a fact of the file it gives the lesser of its old number and what all achievers offer
 pub round-at : (sizes : List ℕ) (achievers : List Achiever) (numbers : List Number) → length numbers ≡ factCount sizes → (v d : ℕ) → d < getD sizes v 0
     → factNumber sizes (additiveRound sizes achievers numbers) v d
@@ -40,6 +35,11 @@ round-at sizes achievers numbers e v d l =
     fact-placed sizes (lowered numbers new) v d l
     ∙ lowered-at numbers new (factPlace sizes v d) (omega (arith, listed-length sizes (offered offers)))
     ∙ ap₂ lesser (sym (fact-placed sizes numbers v d l)) (sym (fact-placed sizes new v d l) ∙ fact-listed sizes (offered offers) v d l)
+
+-- it keeps the length
+pub round-length : (sizes : List ℕ) (achievers : List Achiever) (numbers : List Number) → length (additiveRound sizes achievers numbers) ≡ length numbers
+unfolding additiveRound
+round-length sizes achievers numbers = lowered-length numbers (offersOf sizes achievers numbers)
 
 -- ---- rounds until one changes nothing
 

@@ -14,7 +14,7 @@ use lib.Seq.{getD-set-same, getD-set-other}
 use borrow.Author.Tests.{lt-ltb, le-ltb, eq-eqb, eqb-true}
 use Rattle.facts.specs.Lists.{total, All}
 use Rattle.estimate.specs.Number.{Number, exact, never, lesser, rank, ranked}
-use Rattle.estimate.specs.NumberLaws.{lesser-comm, lesser-never, lesser-zero, ranked-min}
+use Rattle.estimate.specs.NumberLaws.{lesser-comm, lesser-never, lesser-zero, ranked-min, ranked-never}
 use Rattle.estimate.specs.Facts.{mostVariables, mostValues, factIndex, startNumber}
 use Rattle.estimate.specs.FactsLaws.{start-here, start-other, start-below}
 use Rattle.estimate.specs.ListedLaws.{fact-variable}
@@ -131,22 +131,22 @@ or-second {b = b} f e = ap (λ x. x || b) f ∙ sym e
 
 -- ---- the start
 
--- ranks that are all never's have the numbers of the start, once it is lowered to
-pub started-fresh : (n : ℕ) (s : List ℕ) {ranks : List ℕ} → HasRanks ranks (startedOver (rankNumber (replicate n (rank never))) s) → HasRanks ranks (startNumber s)
+-- ranks that are all never's have the numbers of the start, once they are lowered to it
+pub started-fresh : (n x : ℕ) → rank never ≤ x → (s : List ℕ) {ranks : List ℕ} → HasRanks ranks (startedOver (rankNumber (replicate n x)) s) → HasRanks ranks (startNumber s)
 unfolding startedOver
-started-fresh n s h = record { at = λ v d r. h .at v d r ∙ ap (λ a. lesser a (startNumber s v d)) (fresh v d) }
+started-fresh n x high s h = record { at = λ v d r. h .at v d r ∙ ap (λ a. lesser a (startNumber s v d)) (fresh v d) }
   where
-    getD-fill : (n k x : ℕ) → getD (replicate n x) k x ≡ x
-    getD-fill zero k x = refl
-    getD-fill (suc n) zero x = refl
-    getD-fill (suc n) (suc k) x = getD-fill n k x
+    fill : (n k : ℕ) → rank never ≤ getD (replicate n x) k (rank never)
+    fill zero k = omega arith
+    fill (suc n) zero = high
+    fill (suc n) (suc k) = fill n k
 
-    fresh : (v d : ℕ) → rankNumber (replicate n (rank never)) v d ≡ never
+    fresh : (v d : ℕ) → rankNumber (replicate n x) v d ≡ never
     fresh v d = elim (decLe mostVariables v) [
-      | yes past ↦ rank-variable (replicate n (rank never)) v d past
+      | yes past ↦ rank-variable (replicate n x) v d past
       | no low ↦ elim (decLe mostValues d) [
-        | yes past ↦ rank-value (replicate n (rank never)) v d past
-        | no few ↦ rank-here (replicate n (rank never)) v d (lt-of-not-le low) (lt-of-not-le few) ∙ ap ranked (getD-fill n (factIndex v d) (rank never))
+        | yes past ↦ rank-value (replicate n x) v d past
+        | no few ↦ rank-here (replicate n x) v d (lt-of-not-le low) (lt-of-not-le few) ∙ ranked-never (getD (replicate n x) (factIndex v d) (rank never)) (fill n (factIndex v d))
       ]
     ]
 

@@ -14,6 +14,9 @@ const OVER: u64 = 4294967296;
 
 pub const NEVER: u64 = 4294967297;
 
+// All above is never's too: this rank, of bytes that are all alike, fills an array at once.
+pub const UNSET: u64 = 18446744073709551615;
+
 // The rank of a number.
 pub fn rank(e: Est) -> u64
     ensures { λ r. ⌜ ranked r ≡ number e ⌝ }

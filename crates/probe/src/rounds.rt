@@ -1,6 +1,7 @@
 // The estimate of a probe file, in place: one array of ranks, which steps lower in turn.
 use estimate::Est;
 use estimate::ranks::NEVER;
+use estimate::ranks::UNSET;
 use estimate::ranks::sum_rank;
 ghost use mathlib.Core.Path.{_≡_};
 ghost use Prim.Native.Nat.{_≤_};
@@ -19,7 +20,7 @@ pub fn settle(file: &[u8], sizes: &[u8], goal: usize, offsets: &[usize], state: 
     requires { ⌜ Ready (now file) (now sizes) goal (now offsets) ⌝ }
     ensures { λ r. ⌜ number r ≡ additive (now (sizes .entry)) (map (achieverAt (now (file .entry))) (now (offsets .entry))) (partialAt (now (file .entry)) goal) (now (state .entry)) ⌝ }
 {
-    let mut ranks = [NEVER; estimate::FACTS];
+    let mut ranks = [UNSET; estimate::FACTS];
     estimate::start(state, &mut ranks);
     loop {
         if offer_steps(file, offsets, sizes.len(), &mut ranks) {

@@ -1,7 +1,7 @@
 -- Laws of the least cost by the old numbers in place, and of the actions of a task for the heuristic.
 use mathlib.Core.Path.{_≡_, refl, sym, ap, ap₂, subst, _∙_}
 use mathlib.Core.Bool.{Bool, false, _||_}
-use Prim.Native.Nat.{ℕ, zero, suc, _+_, _-_, _≤_, _<_}
+use Prim.Native.Nat.{ℕ, zero, suc, _+_, _-_, _*_, _≤_, _<_}
 use native.Mathlib.Numerals.{add-one}
 use native.Mathlib.Omega.{arith}
 use mathlib.Core.List.{List, [], _∷_, map}
@@ -12,6 +12,7 @@ use Rattle.facts.specs.ListLaws.{all-at}
 use Rattle.facts.specs.Partial.{partialAt, pastPartial}
 use Rattle.facts.specs.Fields.{wordAt}
 use Rattle.estimate.specs.Number.{Number, exact, never, largest, capped, sum, lesser, ranked}
+use Rattle.estimate.specs.NumberLaws.{sum-never-first, sum-never-second}
 use Rattle.estimate.specs.Additive.{sumFrom, Achiever, WfAchiever}
 use Rattle.estimate.specs.Ranks.{rankNumber, HasRanks, Fell, afterOffer}
 use Rattle.estimate.specs.OfferLaws.{offer-same}
@@ -19,8 +20,9 @@ use Rattle.estimate.specs.FallLaws.{Supported, all-supported}
 use Rattle.estimate.specs.InTurn.{afterOwn, InTurn}
 use Rattle.estimate.specs.InTurnLaws.{Turning, turning-start, turning-more, turning-end}
 use Rattle.taskfile.specs.Task.{Edge, Action, maxWeight, WfAction}
+use Rattle.taskfile.specs.TaskFile.{edgeBytes}
 use Rattle.taskfile.specs.WalkInPlace.{incomingPlace, nodeCount}
-use Rattle.taskfile.specs.PartsInPlace.{nodeIn, actionIn, actionsIn}
+use Rattle.taskfile.specs.PartsInPlace.{edgeIn, nodeIn, actionIn, actionsIn}
 use Rattle.relaxation.specs.Least.{leastOf}
 use Rattle.relaxation.specs.LeastLaws.{map-agree, least-taken}
 use Rattle.relaxation.specs.Pass.{byEdge, leastAt, Filled}
@@ -103,6 +105,11 @@ module _ (f sizes : List ℕ) (of : ℕ → ℕ → Number) (table : List ℕ) (
       → leastOf lesser never (map (numberFor f node of v table) (upFrom 0 n)) ≡ leastAt (numberPass sizes of) (nodeIn f sizes node) (λ t. ranked (getD table t 0))
   number-in-place v-is n-is =
       ap₂ (λ (v n : ℕ). leastOf lesser never (map (numberFor f node of v table) (upFrom 0 n))) v-is (n-is ∙ ap (λ (v : ℕ). getD sizes v 0) v-is) ∙ least-there
+
+-- the edge for a value whose number is never comes to never
+pub number-never : (f : List ℕ) (node : ℕ) (of : ℕ → ℕ → Number) (v : ℕ) (table : List ℕ) (d : ℕ) → of v d ≡ never → never ≡ numberFor f node of v table d
+number-never f node of v table d h =
+    let e = edgeIn f (node + (1 + edgeBytes * d)) in sum-never-second (capped (e .weight)) (sym (sum-never-first (ranked (getD table (e .target) 0)) h))
 
 -- ---- the table of an action in place
 

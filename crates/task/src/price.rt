@@ -56,10 +56,15 @@ fn rank_for(
 ) -> u64
     ensures { λ r. ⌜ ranked r ≡ numberFor (now (file .entry)) node (rankNumber (now (ranks .entry))) variable (now (least .entry)) value ⌝ }
 {
+    let number = rank_of(ranks, variable, value as usize);
+    if NEVER <= number {
+        return NEVER; // never plus anything is never
+    }
     let edge = edge_for(file, node, value);
-    let later = rank_at(least, edge.target);
-    let known = sum_rank(rank_of(ranks, variable, value as usize), later);
-    sum_rank(edge.weight as u64, known)
+    sum_rank(
+        edge.weight as u64,
+        sum_rank(number, rank_at(least, edge.target)),
+    )
 }
 
 // The rank at an index of a table, 0 past the last.

@@ -2,6 +2,7 @@
 use crate::price::least_cost;
 use estimate::Est;
 use estimate::ranks::NEVER;
+use estimate::ranks::UNSET;
 use estimate::ranks::ranked;
 use estimate::ranks::sum_rank;
 use facts::number::offset_within;
@@ -32,7 +33,7 @@ pub fn settle(
     requires { ⌜ Estimable (now file) (now sizes) goal (now «action_at») (now «first_node») (now «node_at») ⌝ }
     ensures { λ r. ⌜ number r ≡ additive (now (sizes .entry)) (achieversIn (now (file .entry)) (now (sizes .entry)) (now («action_at» .entry)) (now («first_node» .entry)) (now («node_at» .entry)) 0 (length (now («action_at» .entry)))) (partialAt (now (file .entry)) goal) (now (state .entry)) ⌝ }
 {
-    let mut ranks = [NEVER; FACTS];
+    let mut ranks = [UNSET; FACTS];
     estimate::start(state, &mut ranks);
     loop {
         if offer_actions(file, sizes, action_at, first_node, node_at, &mut ranks) {
@@ -69,11 +70,11 @@ fn offer_action(file: &[u8], sizes: &[u8], at: usize, nodes: &[usize], ranks: &m
     ensures { λ r. ⌜ HasRanks (now (ranks .exit)) (afterOwn (length (now (sizes .entry))) (achieverIn (now (file .entry)) (now (sizes .entry)) at (now (nodes .entry))) (rankNumber (now (ranks .entry)))) ⌝ }
     ensures { λ r. ⌜ Fell (now (ranks .entry)) (now (ranks .exit)) r ⌝ }
 {
+    let effect = at + facts::partial::length_at(file, at);
     let known = estimate::offers::sum_at(file, at, sizes.len(), ranks);
     if NEVER <= known {
         return false; // never is offered to no effect
     }
-    let effect = at + facts::partial::length_at(file, at);
     let offer = sum_rank(known, least_cost(file, sizes, at, nodes, ranks));
     estimate::offers::lower_at(file, effect, offer, ranks)
 }

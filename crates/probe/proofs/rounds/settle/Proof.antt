@@ -2,6 +2,7 @@
 -- sum of all ranks, and one in which none falls leaves the last numbers. Assumes nothing.
 use mathlib.Core.Path.{_≡_, _∙_}
 use mathlib.Core.List.{map}
+use native.Mathlib.Omega.{arith}
 use lib.ListN.{length}
 use denote.Ref.{now}
 use borrow.Author.Needs.{needs}
@@ -26,7 +27,7 @@ loop-holds : tie.Need-loop-holds Inv-loop μ-loop
 loop-holds c =
     let s = c .before .before .before .before .before .before .before in
     let a = s .args in
-    (c .ranks2 .given, nearing-start _ _ _ (s .pre .steps) (steps-supported (now (a .file)) (now (a .offsets))) (roomy-same (s .pre .room) (c .ranks2 .given)) (started-fresh mostFacts (now (a .state)) (c .before .start .ensures .1)))
+    (c .ranks2 .given, nearing-start _ _ _ (s .pre .steps) (steps-supported (now (a .file)) (now (a .offsets))) (roomy-same (s .pre .room) (c .ranks2 .given)) (started-fresh mostFacts _ (omega arith) (now (a .state)) (c .before .start .ensures .1)))
 
 loop-less : tie.Need-loop-less Inv-loop μ-loop
 loop-less c = turn-fell (c .before .before .offer-steps .ensures) .less (c .if1 .taken)

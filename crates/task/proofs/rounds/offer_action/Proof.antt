@@ -20,9 +20,9 @@ returns-2 : tie.Need-returns-2
 returns-2 c =
     let call = c .before .before in
     let total = call .before .before in
-    let effect = total .before .before .before in
-    let known = effect .before .before in
-    let a = known .before .before .before .before .before .before .args in
+    let known = total .before .before .before .before in
+    let effect = known .before .before in
+    let a = effect .before .before .before .before .before .args in
     let f = now (a .file) in (
       action-offered f (now (a .sizes)) (a .at) (now (a .nodes)) (rankNumber (now (a .ranks))) (past-is f (a .at) (effect .length-at .ensures .0))
           (total .sum-rank .ensures ∙ ap₂ sum (known .sum-at .ensures) (total .before .least-cost .ensures)) (call .lower-at .ensures .0),
@@ -35,9 +35,9 @@ offer-action-spec =
     (tie.spec
     (λ c κs. search needs)
     (λ c. search needs)
-    returns
     (λ c κs. search needs)
     (λ c. search needs)
+    returns
     (λ c κs. search needs)
     (λ c κs. search needs)
     (λ c κs. search needs)

@@ -1,6 +1,7 @@
 -- `task::rounds::settle` meets its contract: the numbers are on the way from the start to the last round's, each turn in which a rank falls lowers the
 -- sum of all ranks, and one in which none falls leaves the last numbers. Assumes nothing.
 use mathlib.Core.Path.{_≡_, _∙_}
+use native.Mathlib.Omega.{arith}
 use lib.ListN.{length}
 use denote.Ref.{now}
 use borrow.Author.Needs.{needs}
@@ -24,7 +25,7 @@ loop-holds : tie.Need-loop-holds Inv-loop μ-loop
 loop-holds c =
     let s = c .before .before .before .before .before .before .before .before .before in
     let a = s .args in
-    (c .ranks2 .given, nearing-start _ _ _ (achievers-wf (s .pre)) (actions-supported (now (a .file)) (now (a .sizes)) (now (a .action-at)) (now (a .first-node)) (now (a .node-at))) (roomy-same (s .pre .room) (c .ranks2 .given)) (started-fresh taskFacts (now (a .state)) (c .before .start .ensures .1)))
+    (c .ranks2 .given, nearing-start _ _ _ (achievers-wf (s .pre)) (actions-supported (now (a .file)) (now (a .sizes)) (now (a .action-at)) (now (a .first-node)) (now (a .node-at))) (roomy-same (s .pre .room) (c .ranks2 .given)) (started-fresh taskFacts _ (omega arith) (now (a .state)) (c .before .start .ensures .1)))
 
 loop-less : tie.Need-loop-less Inv-loop μ-loop
 loop-less c = turn-fell (c .before .before .offer-actions .ensures) .less (c .if1 .taken)
