@@ -28,6 +28,10 @@ pub record Roomy (sizes : List ℕ) (count : ℕ) : Type 0 where
 pub record HasRanks (ranks : List ℕ) (of : ℕ → ℕ → Number) : Type 0 where
   pub at : (v d : ℕ) → Room (length ranks) v d → rankNumber ranks v d ≡ of v d
 
+-- no fact has a number yet
+pub record Fresh (ranks : List ℕ) : Type 0 where
+  pub at : (v d : ℕ) → rankNumber ranks v d ≡ never
+
 -- numbers lowered to those with which the estimate from a state starts
 unfoldable pub startedOver : (ℕ → ℕ → Number) → List ℕ → ℕ → ℕ → Number
 startedOver of s v d = lesser (of v d) (startNumber s v d)

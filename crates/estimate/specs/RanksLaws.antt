@@ -18,7 +18,7 @@ use Rattle.estimate.specs.NumberLaws.{lesser-comm, lesser-never, lesser-
 use Rattle.estimate.specs.Facts.{mostVariables, mostValues, factIndex, startNumber}
 use Rattle.estimate.specs.FactsLaws.{start-here, start-other, start-below}
 use Rattle.estimate.specs.ListedLaws.{fact-variable}
-use Rattle.estimate.specs.Ranks.{rankNumber, Room, Roomy, HasRanks, startedOver, Fell, offeredTo, afterFact}
+use Rattle.estimate.specs.Ranks.{rankNumber, Room, Roomy, HasRanks, Fresh, startedOver, Fell, offeredTo, afterFact}
 
 -- ---- room
 
@@ -41,6 +41,11 @@ roomy {most} sizes few l h k e =
           let d-lt : d < mostValues = omega (arith, sizes-at most sizes h v) in
           record { variable = v-lt; value = d-lt; place = omega (arith, fact-variable sizes v d f) };
     }
+
+-- fewer ranks have room for all facts of a file with few variables
+pub roomy-few : {sizes : List ℕ} {most count : ℕ} → Roomy sizes most → length sizes * mostValues ≤ count → Roomy sizes count
+roomy-few {sizes} r l =
+    record { room = λ v d f. let there = r .room v d f in record { variable = there .variable; value = there .value; place = omega (arith, there .value, fact-variable sizes v d f) } }
 
 -- ---- reading a number
 
@@ -131,24 +136,27 @@ or-second {b = b} f e = ap (λ x. x || b) f ∙ sym e
 
 -- ---- the start
 
--- ranks that are all never's have the numbers of the start, once they are lowered to it
-pub started-fresh : (n x : ℕ) → rank never ≤ x → (s : List ℕ) {ranks : List ℕ} → HasRanks ranks (startedOver (rankNumber (replicate n x)) s) → HasRanks ranks (startNumber s)
-unfolding startedOver
-started-fresh n x high s h = record { at = λ v d r. h .at v d r ∙ ap (λ a. lesser a (startNumber s v d)) (fresh v d) }
+-- ranks that are all never's are fresh
+pub fresh-filled : (n x : ℕ) → rank never ≤ x → Fresh (replicate n x)
+fresh-filled n x high = record {
+  at = λ v d. elim (decLe mostVariables v) [
+    | yes past ↦ rank-variable (replicate n x) v d past
+    | no low ↦ elim (decLe mostValues d) [
+      | yes past ↦ rank-value (replicate n x) v d past
+      | no few ↦ rank-here (replicate n x) v d (lt-of-not-le low) (lt-of-not-le few) ∙ ranked-never (getD (replicate n x) (factIndex v d) (rank never)) (fill n (factIndex v d))
+    ]
+  ];
+}
   where
     fill : (n k : ℕ) → rank never ≤ getD (replicate n x) k (rank never)
     fill zero k = omega arith
     fill (suc n) zero = high
     fill (suc n) (suc k) = fill n k
 
-    fresh : (v d : ℕ) → rankNumber (replicate n x) v d ≡ never
-    fresh v d = elim (decLe mostVariables v) [
-      | yes past ↦ rank-variable (replicate n x) v d past
-      | no low ↦ elim (decLe mostValues d) [
-        | yes past ↦ rank-value (replicate n x) v d past
-        | no few ↦ rank-here (replicate n x) v d (lt-of-not-le low) (lt-of-not-le few) ∙ ranked-never (getD (replicate n x) (factIndex v d) (rank never)) (fill n (factIndex v d))
-      ]
-    ]
+-- fresh ranks have the numbers of the start, once they are lowered to it
+pub started-fresh : {before : List ℕ} → Fresh before → (s : List ℕ) {ranks : List ℕ} → HasRanks ranks (startedOver (rankNumber before) s) → HasRanks ranks (startNumber s)
+unfolding startedOver
+started-fresh fresh s h = record { at = λ v d r. h .at v d r ∙ ap (λ a. lesser a (startNumber s v d)) (fresh .at v d) }
 
 -- no variable of the state is read
 pub started-none : (ranks : List ℕ) → HasRanks ranks (startedOver (rankNumber ranks) [])

@@ -10,23 +10,47 @@ ghost use lib.ListN.{length};
 ghost use Rattle.facts.specs.Partial.{partialAt};
 ghost use Rattle.estimate.specs.Number.{number};
 ghost use Rattle.estimate.specs.Additive.{additive};
-ghost use Rattle.estimate.specs.Ranks.{rankNumber, HasRanks, Fell};
+ghost use Rattle.estimate.specs.Ranks.{rankNumber, HasRanks, Roomy, Fresh, Fell};
 ghost use Rattle.estimate.specs.InTurn.{InTurn};
 ghost use Rattle.probe.specs.InPlace.{Within};
 ghost use Rattle.probe.specs.Estimate.{achieverAt, afterStep, Ready};
 
-// Offers from a state until no rank falls, and then the goal facts' sum: `offsets` has the offset of each step, and the goal starts at `goal`.
+// The array of ranks of a file that has few variables is for so many, and has so many places.
+const FEW: usize = 16;
+
+const FEW_FACTS: usize = 1056;
+
+// The estimate from a state: `offsets` has the offset of each step, and the goal starts at `goal`. An array for all variables that a file may have is filled only where it is needed.
 pub fn settle(file: &[u8], sizes: &[u8], goal: usize, offsets: &[usize], state: &[u8]) -> Est
     requires { ⌜ Ready (now file) (now sizes) goal (now offsets) ⌝ }
     ensures { λ r. ⌜ number r ≡ additive (now (sizes .entry)) (map (achieverAt (now (file .entry))) (now (offsets .entry))) (partialAt (now (file .entry)) goal) (now (state .entry)) ⌝ }
 {
+    if sizes.len() <= FEW {
+        let mut few = [UNSET; FEW_FACTS];
+        return settle_in(file, sizes, goal, offsets, state, &mut few);
+    }
     let mut ranks = [UNSET; estimate::FACTS];
-    estimate::start(state, &mut ranks);
+    settle_in(file, sizes, goal, offsets, state, &mut ranks)
+}
+
+// The same in fresh ranks: offers from the start until no rank falls, and then the goal facts' sum.
+fn settle_in(
+    file: &[u8],
+    sizes: &[u8],
+    goal: usize,
+    offsets: &[usize],
+    state: &[u8],
+    ranks: &mut [u64],
+) -> Est
+    requires { ⌜ Ready (now file) (now sizes) goal (now offsets) × Roomy (now sizes) (length (now ranks)) × Fresh (now ranks) ⌝ }
+    ensures { λ r. ⌜ number r ≡ additive (now (sizes .entry)) (map (achieverAt (now (file .entry))) (now (offsets .entry))) (partialAt (now (file .entry)) goal) (now (state .entry)) ⌝ }
+{
+    estimate::start(state, ranks);
     loop {
-        if offer_steps(file, offsets, sizes.len(), &mut ranks) {
+        if offer_steps(file, offsets, sizes.len(), ranks) {
             continue;
         }
-        return estimate::ranks::ranked(estimate::offers::sum_at(file, goal, sizes.len(), &ranks));
+        return estimate::ranks::ranked(estimate::offers::sum_at(file, goal, sizes.len(), ranks));
     }
 }
 

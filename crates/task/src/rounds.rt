@@ -12,15 +12,20 @@ ghost use lib.ListN.{length, getD, drop};
 ghost use Rattle.facts.specs.Partial.{partialAt};
 ghost use Rattle.estimate.specs.Number.{number};
 ghost use Rattle.estimate.specs.Additive.{additive};
-ghost use Rattle.estimate.specs.Ranks.{rankNumber, HasRanks, Fell};
+ghost use Rattle.estimate.specs.Ranks.{rankNumber, HasRanks, Roomy, Fresh, Fell};
 ghost use Rattle.estimate.specs.InTurn.{afterOwn, InTurn};
 ghost use Rattle.relaxation.specs.EstimateInPlace.{achieverIn, achieversIn, Priceable, Estimable};
 
 // The ranks have room for so many facts, those of 24 variables.
 const FACTS: usize = 1584;
 
-// Offers from a state until no rank falls, and then the goal facts' sum: `action_at` has the offset of each action, `first_node` the index of its
-// first node in `node_at`, and the goal starts at `goal`.
+// The array of ranks of a task that has few variables is for so many, and has so many places.
+const FEW: usize = 8;
+
+const FEW_FACTS: usize = 528;
+
+// The estimate from a state: `action_at` has the offset of each action, `first_node` the index of its first node in `node_at`, and the goal starts at `goal`. An array for all variables that a
+// task may have is filled only where it is needed.
 pub fn settle(
     file: &[u8],
     sizes: &[u8],
@@ -33,13 +38,52 @@ pub fn settle(
     requires { ⌜ Estimable (now file) (now sizes) goal (now «action_at») (now «first_node») (now «node_at») ⌝ }
     ensures { λ r. ⌜ number r ≡ additive (now (sizes .entry)) (achieversIn (now (file .entry)) (now (sizes .entry)) (now («action_at» .entry)) (now («first_node» .entry)) (now («node_at» .entry)) 0 (length (now («action_at» .entry)))) (partialAt (now (file .entry)) goal) (now (state .entry)) ⌝ }
 {
+    if sizes.len() <= FEW {
+        let mut few = [UNSET; FEW_FACTS];
+        return settle_in(
+            file,
+            sizes,
+            goal,
+            action_at,
+            first_node,
+            node_at,
+            state,
+            &mut few,
+        );
+    }
     let mut ranks = [UNSET; FACTS];
-    estimate::start(state, &mut ranks);
+    settle_in(
+        file,
+        sizes,
+        goal,
+        action_at,
+        first_node,
+        node_at,
+        state,
+        &mut ranks,
+    )
+}
+
+// The same in fresh ranks: offers from the start until no rank falls, and then the goal facts' sum.
+fn settle_in(
+    file: &[u8],
+    sizes: &[u8],
+    goal: usize,
+    action_at: &[usize],
+    first_node: &[usize],
+    node_at: &[usize],
+    state: &[u8],
+    ranks: &mut [u64],
+) -> Est
+    requires { ⌜ Estimable (now file) (now sizes) goal (now «action_at») (now «first_node») (now «node_at») × Roomy (now sizes) (length (now ranks)) × Fresh (now ranks) ⌝ }
+    ensures { λ r. ⌜ number r ≡ additive (now (sizes .entry)) (achieversIn (now (file .entry)) (now (sizes .entry)) (now («action_at» .entry)) (now («first_node» .entry)) (now («node_at» .entry)) 0 (length (now («action_at» .entry)))) (partialAt (now (file .entry)) goal) (now (state .entry)) ⌝ }
+{
+    estimate::start(state, ranks);
     loop {
-        if offer_actions(file, sizes, action_at, first_node, node_at, &mut ranks) {
+        if offer_actions(file, sizes, action_at, first_node, node_at, ranks) {
             continue;
         }
-        return ranked(estimate::offers::sum_at(file, goal, sizes.len(), &ranks));
+        return ranked(estimate::offers::sum_at(file, goal, sizes.len(), ranks));
     }
 }
 

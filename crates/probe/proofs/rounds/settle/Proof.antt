@@ -1,72 +1,18 @@
--- `probe::rounds::settle` meets its contract: the numbers are on the way from the start to the last round's, each turn in which a rank falls lowers the
--- sum of all ranks, and one in which none falls leaves the last numbers. Assumes nothing.
-use mathlib.Core.Path.{_≡_, _∙_}
-use mathlib.Core.List.{map}
+-- `probe::rounds::settle` meets its contract: either array has room for all facts of the file, and is fresh. Assumes nothing.
 use native.Mathlib.Omega.{arith}
-use lib.ListN.{length}
-use denote.Ref.{now}
 use borrow.Author.Needs.{needs}
-use Rattle.facts.specs.Lists.{total}
 use Rattle.estimate.specs.Facts.{mostFacts}
-use Rattle.estimate.specs.Ranks.{rankNumber}
-use Rattle.estimate.specs.RanksLaws.{roomy-same, started-fresh}
-use Rattle.estimate.specs.InTurn.{Nearing}
-use Rattle.estimate.specs.InTurnLaws.{turn-fell, nearing-start, nearing-on, nearing-end}
-use Rattle.probe.specs.Estimate.{achieverAt}
-use Rattle.probe.specs.EstimateLaws.{steps-supported}
+use Rattle.estimate.specs.RanksLaws.{roomy-few, fresh-filled}
 use Rattle.probe.proofs.rounds.settle.Statement.{statement}
 use Rattle.probe.proofs.rounds.settle.Tie as tie
-
-abbrev Inv-loop : tie.InvT-loop
-Inv-loop file sizes goal offsets state ranks₀ ranks = (length ranks ≡ mostFacts) × Nearing sizes (map (achieverAt file) offsets) state (rankNumber ranks)
-
-abbrev μ-loop : tie.MeasureT-loop
-μ-loop file sizes goal offsets state ranks₀ ranks = total (λ r. r) ranks
-
-loop-holds : tie.Need-loop-holds Inv-loop μ-loop
-loop-holds c =
-    let s = c .before .before .before .before .before .before .before in
-    let a = s .args in
-    (c .ranks2 .given, nearing-start _ _ _ (s .pre .steps) (steps-supported (now (a .file)) (now (a .offsets))) (roomy-same (s .pre .room) (c .ranks2 .given)) (started-fresh mostFacts _ (omega arith) (now (a .state)) (c .before .start .ensures .1)))
-
-loop-less : tie.Need-loop-less Inv-loop μ-loop
-loop-less c = turn-fell (c .before .before .offer-steps .ensures) .less (c .if1 .taken)
-
-loop-again : tie.Need-loop-again Inv-loop μ-loop
-loop-again c =
-    let turn = c .before .before in
-    let l = turn .before .before .loop in
-    let s = turn .before .before .before .before .before .before .before .before .before .before in
-    let a = s .args in
-    let t = turn .offer-steps .ensures in
-    (turn-fell t .count ∙ l .inv .0, nearing-on _ _ _ (s .pre .steps) (steps-supported (now (a .file)) (now (a .offsets))) (roomy-same (s .pre .room) (l .inv .0)) (l .inv .1) t)
-
-returns : tie.Need-returns Inv-loop μ-loop
-returns c =
-    let told = c .before .before .before in
-    let turn = told .before .before in
-    let l = turn .before .before .loop in
-    let s = turn .before .before .before .before .before .before .before .before .before .before in
-    let a = s .args in
-    let t = turn .offer-steps .ensures in
-    c .ranked .ensures
-    ∙ c .before .sum-at .ensures
-    ∙ nearing-end _ _ _ (s .pre .steps) (steps-supported (now (a .file)) (now (a .offsets))) (roomy-same (s .pre .room) (l .inv .0)) (l .inv .1) t (told .if1 .left) (s .pre .goal-is)
 
 pub settle-spec : {M : Type 1} → statement M
 settle-spec =
     tie.close
     (tie.spec
-    Inv-loop
-    μ-loop
     (λ c. search needs)
-    (λ c κs. search needs)
-    loop-holds
+    (λ c κs. let s = c .before .before .before .before .before .before in (s .pre, roomy-few (s .pre .room) (omega arith), fresh-filled 1056 _ (omega arith)))
+    (λ c. c .before .settle-in .ensures)
     (λ c. search needs)
-    (λ c. search needs)
-    loop-less
-    loop-again
-    (λ c. search needs)
-    (λ c κs. search needs)
-    (λ c κs. search needs)
-    returns)
+    (λ c κs. let s = c .before .before .before .before .before .before in (s .pre, s .pre .room, fresh-filled mostFacts _ (omega arith)))
+    (λ c. c .before .settle-in2 .ensures))
