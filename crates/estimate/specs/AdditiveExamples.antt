@@ -80,3 +80,12 @@ small-estimates = refl
 shared-twice : additive (2 ∷ 2 ∷ 2 ∷ []) (step (facts 4 (1 ∷ [])) A=1 0 ∷ step (facts 4 (1 ∷ [])) B=1 0 ∷ step empty (facts 4 (1 ∷ [])) 5 ∷ []) both=1 (0 ∷ 0 ∷ 0 ∷ []) ≡ exact 10
 unfolding additive lastNumbers additiveRound settled
 shared-twice = refl
+
+-- a round uses old numbers alone: after one, B = 1 has a number and A = 1, which needs it, is still never; after the next it has one
+first-round : additiveRound (2 ∷ 2 ∷ []) (set-B ∷ set-A-free ∷ []) (exact 0 ∷ never ∷ exact 0 ∷ never ∷ []) ≡ exact 0 ∷ never ∷ exact 0 ∷ exact 1 ∷ []
+unfolding additiveRound
+first-round = refl
+
+second-round : additiveRound (2 ∷ 2 ∷ []) (set-B ∷ set-A-free ∷ []) (exact 0 ∷ never ∷ exact 0 ∷ exact 1 ∷ []) ≡ exact 0 ∷ exact 1 ∷ exact 0 ∷ exact 1 ∷ []
+unfolding additiveRound
+second-round = refl

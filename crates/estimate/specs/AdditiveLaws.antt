@@ -18,16 +18,11 @@ use Rattle.estimate.specs.Number.{Number, exact, never, lesser, WithinCa
 use Rattle.estimate.specs.NumberLaws.{sum-within, lesser-within}
 use Rattle.estimate.specs.Facts.{startNumber}
 use Rattle.estimate.specs.Rounds.{lowered, roundOf, settled, Lowering}
-use Rattle.estimate.specs.RoundsLaws.{lowered-at, lowered-length, lowered-zero, round-lowering, round-falls, settled-on, settled-still, settled-agrees}
+use Rattle.estimate.specs.RoundsLaws.{lowered-at, lowered-length, lowered-zero, round-lowering, settled-on, settled-still, settled-agrees}
 use Rattle.estimate.specs.Additive.{factCount, listed, factNumber, has, sumFrom, Offer, offeredBy, offered, Achiever, offerOf, offersBy, offersOf, additiveRound, startNumbers, lastNumbers, additive, estimateFile}
 use Rattle.estimate.specs.ListedLaws.{listed-length, factPlace, fact-placed, fact-listed, all-listed, sum-from-within}
 
 -- ---- a round
-
--- it keeps the length
-pub round-length : (sizes : List ℕ) (achievers : List Achiever) (numbers : List Number) → length (additiveRound sizes achievers numbers) ≡ length numbers
-unfolding additiveRound
-round-length sizes achievers numbers = lowered-length numbers (offersOf sizes achievers numbers)
 
 -- for a fact of the file it gives the lesser of its old number and what all achievers offer
 pub round-at : (sizes : List ℕ) (achievers : List Achiever) (numbers : List Number) → length numbers ≡ factCount sizes → (v d : ℕ) → d < getD sizes v 0
@@ -40,6 +35,11 @@ round-at sizes achievers numbers e v d l =
     fact-placed sizes (lowered numbers new) v d l
     ∙ lowered-at numbers new (factPlace sizes v d) (omega (arith, listed-length sizes (offered offers)))
     ∙ ap₂ lesser (sym (fact-placed sizes numbers v d l)) (sym (fact-placed sizes new v d l) ∙ fact-listed sizes (offered offers) v d l)
+
+-- it keeps the length
+pub round-length : (sizes : List ℕ) (achievers : List Achiever) (numbers : List Number) → length (additiveRound sizes achievers numbers) ≡ length numbers
+unfolding additiveRound
+round-length sizes achievers numbers = lowered-length numbers (offersOf sizes achievers numbers)
 
 -- ---- rounds until one changes nothing
 
@@ -101,10 +101,6 @@ module _ {sizes : List ℕ} {achievers : List Achiever} {s : List ℕ} {numbers 
         within = additive-lowering sizes achievers .within numbers (g .within);
         same = g .same ∙ settled-on (additive-lowering sizes achievers) numbers (g .within);
       }
-
-  -- the measure: any other round lowers the sum of all ranks
-  pub settling-falls : additiveRound sizes achievers numbers ≢ numbers → total rank (additiveRound sizes achievers numbers) < total rank numbers
-  settling-falls changed = round-falls (additive-lowering sizes achievers) numbers (g .within) changed
 
 -- ---- the answer
 

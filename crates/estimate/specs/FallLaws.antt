@@ -69,7 +69,7 @@ module _ {new old : ℕ → ℕ → Number} where
   falls-cause (caused l c) differ = c
 
   -- what falls is at most what it was
-  falls-at-most : {a b : Number} → Falls new old a b → AtMost a b
+  pub falls-at-most : {a b : Number} → Falls new old a b → AtMost a b
   falls-at-most (unchanged {a = a}) = at-most-refl a
   falls-at-most (caused l c) = l
 
@@ -136,7 +136,7 @@ module _ {new old : ℕ → ℕ → Number} (lower : (v d : ℕ) → AtMost (new
   falls-sum-from v (suc k) p = falls-with-number v (p .map % 2) (p .values) (falls-sum-from (suc v) k (above p))
 
   -- what an achiever offers to a fact
-  falls-offered-by : (n : ℕ) (a : Achiever) → Supported (a .cost) → (v d : ℕ)
+  pub falls-offered-by : (n : ℕ) (a : Achiever) → Supported (a .cost) → (v d : ℕ)
       → Falls new old (offeredBy (offerOf n new a) v d) (offeredBy (offerOf n old a) v d)
   falls-offered-by n a s v d = go (has (a .eff) v d)
     where

@@ -4,6 +4,7 @@ pub mod Facts
 pub mod Rounds
 pub mod Additive
 pub mod Ranks
+pub mod InTurn
 pub mod Answers
 -- The additive heuristic, computed.
 pub mod AdditiveExamples
@@ -15,7 +16,8 @@ pub mod ListedLaws
 pub mod AdditiveLaws
 pub mod RanksLaws
 pub mod OfferLaws
-pub mod LoopLaws
--- How many rounds there are.
 pub mod FallLaws
+-- The code lowers numbers in turn, and comes to the last numbers of the rounds.
+pub mod InTurnLaws
+-- How many rounds there are.
 pub mod RoundBound

@@ -132,10 +132,14 @@ has-fact {sizes} {p} w v d e = has-inside sizes p (w .map-below) (w .values) v d
 
 -- ---- sums of the numbers of facts
 
+-- each fact's number is added, whatever the others come to
+with-number-adds : (of : ℕ → ℕ → Number) (v b x : ℕ) (values : List ℕ) (others : Number) → withNumber of v (suc b) (x ∷ values) others ≡ sum (of v x) others
+with-number-adds of v b x values others = refl
+
 with-number-within : (of : ℕ → ℕ → Number) (v b : ℕ) (values : List ℕ) (others : Number) → WithinCap others → WithinCap (withNumber of v b values others)
 with-number-within of v zero values others h = h
 with-number-within of v (suc b) [] others h = h
-with-number-within of v (suc b) (x ∷ values) others h = sum-within (of v x) others
+with-number-within of v (suc b) (x ∷ values) others h = rw (with-number-adds of v b x values others) (sum-within (of v x) others)
 
 -- they are within the cap, whatever the numbers are
 pub sum-from-within : (of : ℕ → ℕ → Number) (v k : ℕ) (p : Partial) → WithinCap (sumFrom of v k p)

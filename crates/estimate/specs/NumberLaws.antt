@@ -3,6 +3,7 @@ use Prim.Native.Nat.{ℕ, _+_, _≤_, _<_, min}
 use mathlib.Core.Path.{_≡_, refl, sym, ap, ap₂, _∙_}
 use mathlib.Core.Bool.{Bool, true, false, false≢true}
 use native.Mathlib.Nat.{add-comm}
+use native.Mathlib.Decide.{decLe}
 use native.Mathlib.Omega.{arith}
 use lib.Dec.{leb, eqb}
 use borrow.Author.Tests.{leb-true, leb-false, le-leb, lt-leb, eqb-true, eq-eqb}
@@ -143,6 +144,10 @@ at-most-antisym {a} {b} h k = sym (h .is-lesser) ∙ lesser-comm a b ∙ k .is-l
 pub lesser-at-most : (a b : Number) → AtMost (lesser a b) a
 lesser-at-most a b = record { is-lesser = lesser-comm (lesser a b) a ∙ sym (lesser-assoc a a b) ∙ ap (λ x. lesser x b) (lesser-idem a) }
 
+-- what is at most two numbers is at most the lesser
+pub lesser-least : {a b c : Number} → AtMost a b → AtMost a c → AtMost a (lesser b c)
+lesser-least {a} {b} {c} h k = record { is-lesser = sym (lesser-assoc a b c) ∙ ap (λ x. lesser x c) (h .is-lesser) ∙ k .is-lesser }
+
 sum-monotone-right : (a : Number) {b c : Number} → AtMost b c → AtMost (sum a b) (sum a c)
 sum-monotone-right a {b} {c} h = record { is-lesser = sym (sum-lesser a b c) ∙ ap (sum a) (h .is-lesser) }
 
@@ -220,6 +225,20 @@ ranked-min m n =
     let low = rank-lesser (ranked m) (ranked n) (ranked-within m) (ranked-within n) in
     rank-injective (ranked-within (min m n)) both (omega (arith, rank-ranked (min m n), rank-ranked m, rank-ranked n, low))
 
+-- the ranks of exact numbers and of over add up, and what is above them is over's
+pub ranked-low : (n : ℕ) → n < rank never → ranked n ≡ capped n
+ranked-low n h = rw (le-leb n (rank over) (omega arith), ranked)
+
+capped-min : (n : ℕ) → capped (min n (rank over)) ≡ capped n
+capped-min n = elim (decLe n (rank over)) [
+  | yes low ↦ let same : min n (rank over) ≡ n = omega arith in ap capped same
+  | no high ↦ capped-over (min n (rank over)) (omega arith) ∙ sym (capped-over n (omega arith))
+]
+
+pub ranked-sum : {m n r : ℕ} → m < rank never → n < rank never → r ≡ min (m + n) (rank over) → ranked r ≡ sum (ranked m) (ranked n)
+ranked-sum {m} {n} h k e =
+    ap ranked e ∙ ranked-low (min (m + n) (rank over)) (omega arith) ∙ capped-min (m + n) ∙ sym (ap₂ sum (ranked-low m h) (ranked-low n k) ∙ sum-capped m n)
+
 -- ranks of which one is below that of never are of the same number only if they are the same
 pub ranked-other : (m n : ℕ) → (m ≡ n → ⊥) → min m n < rank never → ranked m ≡ ranked n → ⊥
 ranked-other m n other l e = other (omega (arith, rank-ranked m, rank-ranked n, ap rank e))
@@ -244,6 +263,12 @@ same-false a b other = go (same a b) refl
     go false e = refl
 
 -- ---- the ways in which the code can go
+
+pub sum-never-first : {a : Number} (b : Number) → a ≡ never → never ≡ sum a b
+sum-never-first b e = sym (ap (λ x. sum x b) e)
+
+pub sum-never-second : (a : Number) {b : Number} → b ≡ never → never ≡ sum a b
+sum-never-second a e = sym (ap (sum a) e ∙ sum-never a)
 
 pub never-sum : {a : Number} (b : Number) → a ≡ never → a ≡ sum a b
 never-sum b e = e ∙ sym (ap (λ x. sum x b) e)

@@ -3,9 +3,11 @@ pub mod offers;
 pub mod ranks;
 
 use facts::Refusal;
+use ranks::rank;
 ghost use mathlib.Core.Path.{_≡_};
 ghost use Rattle.estimate.specs.Number.{number, sum, lesser, same};
 ghost use Rattle.estimate.specs.Facts.{HasNumbers, startNumber};
+ghost use Rattle.estimate.specs.Ranks.{rankNumber, HasRanks, startedOver};
 
 // A number of the estimate. Never is first, for the first case is what a definition reads past the end of an array.
 pub enum Est {
@@ -98,9 +100,10 @@ pub const VALUES: usize = 66;
 pub const FACTS: usize = 3762;
 
 // The numbers with which the estimate from a state starts, at variable times 66 plus value: 0 for the facts of the state, else never. Past 57
-// variables and past 66 values nothing is set.
-pub fn start(state: &[u8]) -> [Est; 3762]
+// variables and past 66 values nothing is set. Each number that is set lowers the rank at its index, so that ranks that are never's have the same numbers.
+pub fn start(state: &[u8], ranks: &mut [u64]) -> [Est; 3762]
     ensures { λ r. ⌜ HasNumbers r (startNumber (now (state .entry))) ⌝ }
+    ensures { λ r. ⌜ HasRanks (now (ranks .exit)) (startedOver (rankNumber (now (ranks .entry))) (now (state .entry))) ⌝ }
 {
     let mut numbers = [Est::Never; 3762];
     for v in 0..VARIABLES {
@@ -111,7 +114,12 @@ pub fn start(state: &[u8]) -> [Est; 3762]
         if VALUES <= d {
             continue;
         }
-        numbers[v * VALUES + d] = Est::Exact(0);
+        let i = v * VALUES + d;
+        numbers[i] = Est::Exact(0);
+        if ranks.len() <= i {
+            continue;
+        }
+        ranks[i] = rank(numbers[i]);
     }
     numbers
 }

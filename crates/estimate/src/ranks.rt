@@ -6,14 +6,16 @@ use crate::VALUES;
 use crate::VARIABLES;
 ghost use mathlib.Core.Path.{_≡_};
 ghost use Prim.Native.Nat.{min};
-ghost use Rattle.estimate.specs.Number.{number, same, ranked};
-ghost use Rattle.estimate.specs.Facts.{startNumber};
-ghost use Rattle.estimate.specs.Ranks.{rankNumber, HasRanks, Unset, FactTaken, RowTaken, TakenOver};
+ghost use Rattle.estimate.specs.Number.{number, sum, ranked};
+ghost use Rattle.estimate.specs.Ranks.{rankNumber};
 
 // The ranks of over and of never.
 const OVER: u64 = 4294967296;
 
 pub const NEVER: u64 = 4294967297;
+
+// All above is never's too: this rank, of bytes that are all alike, fills an array at once.
+pub const UNSET: u64 = 18446744073709551615;
 
 // The rank of a number.
 pub fn rank(e: Est) -> u64
@@ -46,104 +48,32 @@ pub fn lesser_rank(a: u64, b: u64) -> u64
     if b < a { b } else { a }
 }
 
-// Whether two ranks are of the same number.
-pub fn same_rank(a: u64, b: u64) -> bool
-    ensures { λ r. ⌜ r ≡ same (ranked a) (ranked b) ⌝ }
+// The rank of the sum of two numbers.
+pub fn sum_rank(a: u64, b: u64) -> u64
+    ensures { λ r. ⌜ ranked r ≡ sum (ranked a) (ranked b) ⌝ }
 {
-    if a == b {
-        return true;
+    if NEVER <= a {
+        return NEVER;
     }
-    if a < NEVER {
-        return false;
+    if NEVER <= b {
+        return NEVER;
     }
-    if b < NEVER {
-        return false;
-    }
-    true
+    lesser_rank(a + b, OVER)
 }
 
-// The number of the fact that variable v has the value d.
-pub fn number_of(ranks: &[u64], v: usize, d: usize) -> Est
-    ensures { λ r. ⌜ number r ≡ rankNumber (now (ranks .entry)) v d ⌝ }
+// The rank of the number of the fact that variable v has the value d.
+pub fn rank_of(ranks: &[u64], v: usize, d: usize) -> u64
+    ensures { λ r. ⌜ ranked r ≡ rankNumber (now (ranks .entry)) v d ⌝ }
 {
     if VARIABLES <= v {
-        return Est::Never;
+        return NEVER;
     }
     if VALUES <= d {
-        return Est::Never;
+        return NEVER;
     }
     let i = v * VALUES + d;
     if ranks.len() <= i {
-        return Est::Never;
+        return NEVER;
     }
-    ranked(ranks[i])
-}
-
-// Sets the ranks of the numbers with which the estimate from a state starts, where none is set yet: 0 for the facts of the state, else never.
-pub fn start_ranks(state: &[u8], ranks: &mut [u64])
-    ensures { λ r. ⌜ (Unset (now (ranks .entry)) → HasRanks (now (ranks .exit)) (startNumber (now (state .entry)))) ⌝ }
-{
-    let numbers = crate::start(state);
-    for v in 0..VARIABLES {
-        if state.len() <= v {
-            return;
-        }
-        let d = state[v] as usize;
-        if VALUES <= d {
-            continue;
-        }
-        let i = v * VALUES + d;
-        if ranks.len() <= i {
-            continue;
-        }
-        ranks[i] = rank(numbers[i]);
-    }
-}
-
-// Takes over the ranks of all facts of a file from `new` to `old`; whether that changes a number.
-pub fn take_over(sizes: &[u8], new: &[u64], old: &mut [u64]) -> bool
-    ensures { λ r. ⌜ TakenOver (now (sizes .entry)) (now (new .entry)) (now (old .entry)) (now (old .exit)) r ⌝ }
-{
-    let mut changed = false;
-    for v in 0..sizes.len() {
-        let more = take_row(v, sizes[v] as usize, new, old);
-        changed = changed || more;
-    }
-    changed
-}
-
-// The same for the facts of variable v, which has `size` values.
-fn take_row(v: usize, size: usize, new: &[u64], old: &mut [u64]) -> bool
-    ensures { λ r. ⌜ RowTaken v size (now (new .entry)) (now (old .entry)) (now (old .exit)) r ⌝ }
-{
-    let mut changed = false;
-    for d in 0..size {
-        let more = take_fact(v, d, new, old);
-        changed = changed || more;
-    }
-    changed
-}
-
-// The same for the fact that variable v has the value d.
-fn take_fact(v: usize, d: usize, new: &[u64], old: &mut [u64]) -> bool
-    ensures { λ r. ⌜ FactTaken v d (now (new .entry)) (now (old .entry)) (now (old .exit)) r ⌝ }
-{
-    if VARIABLES <= v {
-        return false;
-    }
-    if VALUES <= d {
-        return false;
-    }
-    let i = v * VALUES + d;
-    if new.len() <= i {
-        return false;
-    }
-    if old.len() <= i {
-        return false;
-    }
-    if same_rank(old[i], new[i]) {
-        return false;
-    }
-    old[i] = new[i];
-    true
+    ranks[i]
 }

@@ -8,7 +8,7 @@ use lib.Bits.{bitAnd, and-block, and-mask, and-self}
 use lib.Count.{ones, trailingZeros, under}
 use lib.Pow.{split, pow-pos, pow-mono, shr-shr}
 use Rattle.facts.specs.Bits.{Lowest}
-use Rattle.facts.specs.BitsLaws.{doubled, skip, ones-even, ones-odd}
+use Rattle.facts.specs.BitsLaws.{doubled, skip, cleared, ones-even, ones-odd}
 
 -- a map has no bit from n up exactly if nothing is left of it after n halvings
 pub no-stray : (map n : ℕ) → map / 2 ^ n ≡ 0 → map < 2 ^ n
@@ -40,17 +40,7 @@ lowest-within {m} {z} {a} k l h =
     let low : 1 * 2 ^ z ≤ (2 * a + 1) * 2 ^ z = mul-le-mul-right (2 ^ z) (omega arith) in
     lt-of-not-le (λ g. let most = pow-mono g in absurd (omega (arith, l .bits)))
 
--- the map without its lowest standing bit
-pub cleared : {m z a : ℕ} → Lowest m z a → bitAnd m (m - 1) ≡ a * 2 ^ suc z
-cleared {m} {z} {a} l =
-    let spread : (2 * a + 1) * 2 ^ z ≡ a * 2 ^ suc z + 2 ^ z = omega (arith, add-mul (2 * a) 1 (2 ^ z), mul-assoc 2 a (2 ^ z), doubled a z) in
-    let whole : m ≡ a * 2 ^ suc z + 2 ^ z = l .bits ∙ spread in
-    let less : m - 1 ≡ a * 2 ^ suc z + (2 ^ z - 1) = omega (arith, whole, pow-pos z) in
-    let up = pow-suc 2 z in
-    ap₂ bitAnd whole less ∙ and-block (suc z) a a (2 ^ z) (2 ^ z - 1) (omega (arith, pow-pos z, up)) (omega (arith, pow-pos z, up))
-    ∙ omega (arith, ap (λ (x : ℕ). x * 2 ^ suc z) (and-self a), and-mask (2 ^ z) z, mod-self (2 ^ z))
-
--- has one standing bit less
+-- the map without its lowest standing bit has one standing bit less
 ones-shift : (m z : ℕ) → ones (m * 2 ^ z) ≡ ones m
 ones-shift m z = skip (λ m v. ones m) (λ m v. ones-even m) z m 0
 

@@ -18,11 +18,10 @@ use Rattle.facts.specs.declared.Held.the-variants.{Ends, Not}
 use Rattle.facts.specs.Answers.{EndsAt, EndsAlike}
 use Rattle.facts.specs.Partial.{Partial, equal, agrees, after, rest, above, holds, apply, standingAt}
 use Rattle.facts.specs.Bits.{Lowest}
-use Rattle.facts.specs.BitsLaws.{even-bit, even-half, odd-bit, odd-half, skip, first-even, first-odd, first-cut, above-even, above-odd, no-bits, cut-values}
+use Rattle.facts.specs.BitsLaws.{even-bit, even-half, odd-bit, odd-half, skip, first-even, first-odd, first-cut, above-even, above-odd, no-bits, cut-values, cleared}
 use Rattle.facts.specs.PartialLaws.{holds-empty, apply-empty}
 use Rattle.facts.specs.Fields.{standing, nextOf, readValue, readValues}
 use Rattle.facts.specs.EachLaws.{next-each}
-use Rattle.facts.proofs.Bits.{cleared}
 
 drop-one : (v : ℕ) (xs : List ℕ) → drop 1 (drop v xs) ≡ drop (suc v) xs
 drop-one v xs = drop-drop 1 v xs ∙ rw (add-one v)

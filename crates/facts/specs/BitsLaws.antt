@@ -1,14 +1,17 @@
 -- Laws of the standing bits of a map, for loops that go from one to the next: zeros below a bit change nothing, and what a partial state in
 -- place is at its first variable and above it.
-use mathlib.Core.Path.{_≡_, refl, ap₂, _∙_}
-use Prim.Native.Nat.{ℕ, zero, suc, _+_, _*_, _/_, _%_, _^_, _≤_, _<_}
-use native.Mathlib.Nat.{pow-suc, mul-assoc}
+use mathlib.Core.Path.{_≡_, refl, ap, ap₂, _∙_}
+use Prim.Native.Nat.{ℕ, zero, suc, _+_, _-_, _*_, _/_, _%_, _^_, _≤_, _<_}
+use native.Mathlib.Nat.{pow-suc, add-mul, mul-assoc, mod-self}
 use native.Mathlib.Numerals.{add-one}
 use native.Mathlib.Omega.{arith}
 use mathlib.Core.List.{List, [], _∷_}
+use lib.Bits.{bitAnd, and-block, and-mask, and-self}
 use lib.Count.{ones, ones-step}
 use lib.ListN.{length, getD, take, drop, drop-of-length-le}
+use lib.Pow.{pow-pos}
 use lib.Seq.{drop-cons, take-nil}
+use Rattle.facts.specs.Bits.{Lowest}
 use Rattle.facts.specs.Partial.{Partial, above, empty, standingAt}
 
 -- ---- a map
@@ -25,6 +28,22 @@ skip F h zero m v = ap₂′ (omega arith) (omega arith)
 skip F h (suc z) m v =
     let next : v + suc z ≡ suc v + z = omega arith in
     rw (doubled m z, next) (h (m * 2 ^ z) v ∙ skip F h z m (suc v))
+
+-- the map without its lowest standing bit
+pub cleared : {m z a : ℕ} → Lowest m z a → bitAnd m (m - 1) ≡ a * 2 ^ suc z
+cleared {m} {z} {a} l =
+    let spread : (2 * a + 1) * 2 ^ z ≡ a * 2 ^ suc z + 2 ^ z = omega (arith, add-mul (2 * a) 1 (2 ^ z), mul-assoc 2 a (2 ^ z), doubled a z) in
+    let whole : m ≡ a * 2 ^ suc z + 2 ^ z = l .bits ∙ spread in
+    let less : m - 1 ≡ a * 2 ^ suc z + (2 ^ z - 1) = omega (arith, whole, pow-pos z) in
+    let up = pow-suc 2 z in
+    ap₂ bitAnd whole less ∙ and-block (suc z) a a (2 ^ z) (2 ^ z - 1) (omega (arith, pow-pos z, up)) (omega (arith, pow-pos z, up))
+    ∙ omega (arith, ap (λ (x : ℕ). x * 2 ^ suc z) (and-self a), and-mask (2 ^ z) z, mod-self (2 ^ z))
+
+-- nor by taking the lowest standing bit away
+pub skip-cleared : {X : Type 0} (F : ℕ → ℕ → X) → ((m v : ℕ) → F (2 * m) v ≡ F m (suc v)) → {m z a : ℕ} → Lowest m z a → F (bitAnd m (m - 1)) 0 ≡ F a (0 + z + 1)
+skip-cleared F h {m} {z} {a} l =
+    let up : 0 + suc z ≡ 0 + z + 1 = omega arith in
+    ap (λ (m : ℕ). F m 0) (cleared l) ∙ skip F h (suc z) a 0 ∙ ap (F a) up
 
 -- a map whose lowest bit does not stand, and one whose lowest bit stands
 pub even-bit : (m : ℕ) → (2 * m) % 2 ≡ 0

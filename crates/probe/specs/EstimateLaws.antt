@@ -1,5 +1,6 @@
 -- Laws of the estimate of a probe file in place: the offer of a step, the offers of all, and the file that was read.
 use mathlib.Core.Path.{_≡_, refl, sym, ap, ap₂, _∙_, subst, subst₂}
+use mathlib.Core.Bool.{Bool, _||_}
 use Prim.Native.Nat.{ℕ, zero, suc, _+_, _*_, _≤_, _<_}
 use native.Mathlib.Numerals.{add-one}
 use native.Mathlib.Omega.{arith}
@@ -14,13 +15,17 @@ use Rattle.facts.specs.Fields.{wordAt}
 use Rattle.facts.specs.HeadLaws.{head-read}
 use Rattle.facts.specs.WellFormed.{WfPartial}
 use Rattle.facts.specs.State.{checkState}
-use Rattle.estimate.specs.Number.{Number, exact, sum}
+use Rattle.estimate.specs.Number.{Number, exact, never, sum}
+use Rattle.estimate.specs.NumberLaws.{sum-never-first}
 use Rattle.estimate.specs.Facts.{mostFacts}
-use Rattle.estimate.specs.Additive.{sumFrom, offerOf, offersBy, Achiever, WfAchiever, additive}
+use Rattle.estimate.specs.Additive.{sumFrom, offerOf, Achiever, WfAchiever, additive}
 use Rattle.estimate.specs.AdditiveLaws.{estimate-refused, estimate-turned-down, estimate-answers}
-use Rattle.estimate.specs.Ranks.{rankNumber, Roomy, HasRanks, afterOffer, afterOffers}
-use Rattle.estimate.specs.OfferLaws.{offer-same, Heard, heard-none, heard-more, heard-all}
-use Rattle.estimate.specs.LoopLaws.{roomy}
+use Rattle.estimate.specs.Ranks.{rankNumber, Roomy, HasRanks, Fell, afterOffer}
+use Rattle.estimate.specs.OfferLaws.{offer-same, offer-never}
+use Rattle.estimate.specs.RanksLaws.{roomy}
+use Rattle.estimate.specs.FallLaws.{Supported, constant-supported, all-supported}
+use Rattle.estimate.specs.InTurn.{InTurn}
+use Rattle.estimate.specs.InTurnLaws.{Turning, turning-more, turning-end}
 use Rattle.probe.specs.Probe.{Step, Probe, WfStep, WfProbe}
 use Rattle.probe.specs.ProbeFile.{readProbe}
 use Rattle.probe.specs.ProbeLaws.{probe-lines, probe-wf}
@@ -31,30 +36,40 @@ use Rattle.probe.specs.Estimate.{stepAchiever, probeEstimate, estimatePr
 -- ---- the offers of steps
 
 -- the offer of the step at an offset, from its parts
-pub step-offered : (f : List ℕ) (at n : ℕ) (old of : ℕ → ℕ → Number) {effect place : ℕ} {offer : Number} {ranks : List ℕ} → effect ≡ pastPartial f at → place ≡ pastPartial f effect
-    → offer ≡ sum (sumFrom old 0 n (partialAt f at)) (exact (wordAt f place)) → HasRanks ranks (afterOffer (record { effect = partialAt f effect; number = offer }) of)
-    → HasRanks ranks (afterStep f at n old of)
+pub step-offered : (f : List ℕ) (at n : ℕ) (of : ℕ → ℕ → Number) {effect place : ℕ} {offer : Number} {ranks : List ℕ} → effect ≡ pastPartial f at → place ≡ pastPartial f effect
+    → offer ≡ sum (sumFrom of 0 n (partialAt f at)) (exact (wordAt f place)) → HasRanks ranks (afterOffer (record { effect = partialAt f effect; number = offer }) of)
+    → HasRanks ranks (afterStep f at n of)
 unfolding stepAt afterStep
-step-offered f at n old of {effect} {place} e q o h =
+step-offered f at n of {effect} {place} e q o h =
     let z : place ≡ pastPartial f (pastPartial f at) = q ∙ ap (pastPartial f) e in
-    offer-same of (ap (partialAt f) (sym e)) (sym (o ∙ ap (λ (w : ℕ). sum (sumFrom old 0 n (partialAt f at)) (exact (wordAt f w))) z)) h
+    offer-same of (ap (partialAt f) (sym e)) (sym (o ∙ ap (λ (w : ℕ). sum (sumFrom of 0 n (partialAt f at)) (exact (wordAt f w))) z)) h
 
-module _ (f offsets : List ℕ) (n : ℕ) (old : ℕ → ℕ → Number) where
-  -- the offers of the steps from the k-th on are left
-  abbrev pub HeardFrom : ℕ → (ℕ → ℕ → Number) → List ℕ → Type 0
-  HeardFrom k whole ranks = Heard (offersBy n old (map (achieverAt f) (drop k offsets))) whole ranks
+-- a step that is never open offers nothing
+pub step-never : (f : List ℕ) (at n : ℕ) (ranks : List ℕ) → sumFrom (rankNumber ranks) 0 n (partialAt f at) ≡ never → HasRanks ranks (afterStep f at n (rankNumber ranks))
+unfolding stepAt afterStep
+step-never f at n ranks e = offer-never (offerOf n (rankNumber ranks) (achieverAt f at)) ranks (sym (sum-never-first _ e))
+
+module _ (f offsets : List ℕ) (n : ℕ) where
+  -- the steps from the k-th on are left to offer
+  abbrev pub TurningFrom : ℕ → List ℕ → List ℕ → Bool → Type 0
+  TurningFrom k before ranks fell = Turning n (map (achieverAt f) offsets) (map (achieverAt f) (drop k offsets)) before ranks fell
 
   -- one step more
-  pub steps-more : (k : ℕ) (whole : ℕ → ℕ → Number) {ranks next : List ℕ} → HeardFrom k whole ranks → k < length offsets → length next ≡ length ranks
-      → HasRanks next (afterStep f (getD offsets k 0) n old (rankNumber ranks)) → HeardFrom (k + 1) whole next
+  pub steps-more : (k : ℕ) {before ranks next : List ℕ} {x y fell : Bool} → TurningFrom k before ranks x → k < length offsets
+      → HasRanks next (afterStep f (getD offsets k 0) n (rankNumber ranks)) → Fell ranks next y → (x || y) ≡ fell → TurningFrom (k + 1) before next fell
   unfolding afterStep
-  steps-more k whole {ranks} g l same h =
+  steps-more k {before} {ranks} {x = x} g l h =
       let split : drop k offsets ≡ getD offsets k 0 ∷ drop (k + 1) offsets = drop-cons offsets k 0 l ∙ ap (λ (j : ℕ). getD offsets k 0 ∷ drop j offsets) (sym (add-one k)) in
-      heard-more (subst (λ (ats : List ℕ). Heard (offersBy n old (map (achieverAt f) ats)) whole ranks) split g) same h
+      turning-more (subst (λ (ats : List ℕ). Turning n (map (achieverAt f) offsets) (map (achieverAt f) ats) before ranks x) split g) h
 
   -- past the last step
-  pub steps-all : (k : ℕ) (whole : ℕ → ℕ → Number) {ranks : List ℕ} → HeardFrom k whole ranks → length offsets ≤ k → HasRanks ranks whole
-  steps-all k whole {ranks} g l = heard-all (subst (λ (ats : List ℕ). Heard (offersBy n old (map (achieverAt f) ats)) whole ranks) (drop-of-length-le offsets l) g)
+  pub steps-all : (k : ℕ) {before ranks : List ℕ} {fell : Bool} → TurningFrom k before ranks fell → length offsets ≤ k → InTurn n (map (achieverAt f) offsets) before ranks fell
+  steps-all k {before} {ranks} {fell} g l =
+      turning-end (subst (λ (ats : List ℕ). Turning n (map (achieverAt f) offsets) (map (achieverAt f) ats) before ranks fell) (drop-of-length-le offsets l) g)
+
+-- a step has a fixed cost
+pub steps-supported : (f offsets : List ℕ) → All (λ a. Supported (a .cost)) (map (achieverAt f) offsets)
+steps-supported f offsets = all-supported (achieverAt f) (λ at. constant-supported (exact (stepAt f at .cost))) offsets
 
 -- ---- the file that was read
 
@@ -105,7 +120,7 @@ module _ {f : List ℕ} {variables : ℕ} {offsets : List ℕ} (g : InPlace f va
     ready =
         let w = g .wf in
         record {
-          room = subst (λ (sizes : List ℕ). Roomy sizes mostFacts) (sym sizes-are) (roomy (g .probe .sizes) (w .variables) (omega arith) (w .sizes) (omega arith) refl);
+          room = subst (λ (sizes : List ℕ). Roomy sizes mostFacts) (sym sizes-are) (roomy (g .probe .sizes) (w .variables) (omega arith) (w .sizes) (omega arith) (omega arith));
           within = g .within;
           steps = subst₂ (λ (sizes : List ℕ) (achievers : List Achiever). All (WfAchiever sizes) achievers) (sym sizes-are) (sym achievers-are) (steps-ready (g .probe .sizes) (g .probe .steps) (w .steps));
           goal-is = subst₂ WfPartial (sym sizes-are) (sym goal-is) (w .goal);

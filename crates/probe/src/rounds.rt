@@ -1,51 +1,84 @@
-// The rounds of the estimate of a probe file, in place.
+// The estimate of a probe file, in place: one array of ranks, which steps lower in turn.
 use estimate::Est;
+use estimate::ranks::NEVER;
+use estimate::ranks::UNSET;
+use estimate::ranks::sum_rank;
 ghost use mathlib.Core.Path.{_≡_};
 ghost use Prim.Native.Nat.{_≤_};
 ghost use mathlib.Core.List.{map};
 ghost use lib.ListN.{length};
 ghost use Rattle.facts.specs.Partial.{partialAt};
 ghost use Rattle.estimate.specs.Number.{number};
-ghost use Rattle.estimate.specs.Additive.{offersBy, additive};
-ghost use Rattle.estimate.specs.Ranks.{rankNumber, HasRanks, afterOffers};
+ghost use Rattle.estimate.specs.Additive.{additive};
+ghost use Rattle.estimate.specs.Ranks.{rankNumber, HasRanks, Roomy, Fresh, Fell};
+ghost use Rattle.estimate.specs.InTurn.{InTurn};
 ghost use Rattle.probe.specs.InPlace.{Within};
 ghost use Rattle.probe.specs.Estimate.{achieverAt, afterStep, Ready};
 
-// Rounds from a state until one changes nothing, and then the goal facts' sum: `offsets` has the offset of each step, and the goal starts at `goal`.
+// The array of ranks of a file that has few variables is for so many, and has so many places.
+const FEW: usize = 16;
+
+const FEW_FACTS: usize = 1056;
+
+// The estimate from a state: `offsets` has the offset of each step, and the goal starts at `goal`. An array for all variables that a file may have is filled only where it is needed.
 pub fn settle(file: &[u8], sizes: &[u8], goal: usize, offsets: &[usize], state: &[u8]) -> Est
     requires { ⌜ Ready (now file) (now sizes) goal (now offsets) ⌝ }
     ensures { λ r. ⌜ number r ≡ additive (now (sizes .entry)) (map (achieverAt (now (file .entry))) (now (offsets .entry))) (partialAt (now (file .entry)) goal) (now (state .entry)) ⌝ }
 {
-    let mut old = [estimate::ranks::NEVER; estimate::FACTS];
-    estimate::ranks::start_ranks(state, &mut old);
-    let mut new = old; // the one copy; a round changes the new numbers in place
+    if sizes.len() <= FEW {
+        let mut few = [UNSET; FEW_FACTS];
+        return settle_in(file, sizes, goal, offsets, state, &mut few);
+    }
+    let mut ranks = [UNSET; estimate::FACTS];
+    settle_in(file, sizes, goal, offsets, state, &mut ranks)
+}
+
+// The same in fresh ranks: offers from the start until no rank falls, and then the goal facts' sum.
+fn settle_in(
+    file: &[u8],
+    sizes: &[u8],
+    goal: usize,
+    offsets: &[usize],
+    state: &[u8],
+    ranks: &mut [u64],
+) -> Est
+    requires { ⌜ Ready (now file) (now sizes) goal (now offsets) × Roomy (now sizes) (length (now ranks)) × Fresh (now ranks) ⌝ }
+    ensures { λ r. ⌜ number r ≡ additive (now (sizes .entry)) (map (achieverAt (now (file .entry))) (now (offsets .entry))) (partialAt (now (file .entry)) goal) (now (state .entry)) ⌝ }
+{
+    estimate::start(state, ranks);
     loop {
-        offer_steps(file, offsets, sizes.len(), &old, &mut new);
-        if estimate::ranks::take_over(sizes, &new, &mut old) {
+        if offer_steps(file, offsets, sizes.len(), ranks) {
             continue;
         }
-        return estimate::offers::sum_at(file, goal, sizes.len(), &old);
+        return estimate::ranks::ranked(estimate::offers::sum_at(file, goal, sizes.len(), ranks));
     }
 }
 
-// What all steps offer by the old numbers, to the new ones; there are n variables.
-fn offer_steps(file: &[u8], offsets: &[usize], n: usize, old: &[u64], new: &mut [u64])
+// All steps offer in turn, each by the numbers as they are then; whether a rank fell. There are n variables.
+fn offer_steps(file: &[u8], offsets: &[usize], n: usize, ranks: &mut [u64]) -> bool
     requires { ⌜ Within (now file) (now offsets) ⌝ }
-    ensures { λ r. ⌜ HasRanks (now (new .exit)) (afterOffers (offersBy n (rankNumber (now (old .entry))) (map (achieverAt (now (file .entry))) (now (offsets .entry)))) (rankNumber (now (new .entry)))) ⌝ }
+    ensures { λ r. ⌜ InTurn n (map (achieverAt (now (file .entry))) (now (offsets .entry))) (now (ranks .entry)) (now (ranks .exit)) r ⌝ }
 {
+    let mut fell = false;
     for k in 0..offsets.len() {
-        offer_step(file, offsets[k], n, old, new);
+        let more = offer_step(file, offsets[k], n, ranks);
+        fell = fell || more;
     }
+    fell
 }
 
 // The same for the step at an offset.
-fn offer_step(file: &[u8], at: usize, n: usize, old: &[u64], new: &mut [u64])
+fn offer_step(file: &[u8], at: usize, n: usize, ranks: &mut [u64]) -> bool
     requires { ⌜ at ≤ length (now file) ⌝ }
-    ensures { λ r. ⌜ HasRanks (now (new .exit)) (afterStep (now (file .entry)) at n (rankNumber (now (old .entry))) (rankNumber (now (new .entry)))) ⌝ }
+    ensures { λ r. ⌜ HasRanks (now (ranks .exit)) (afterStep (now (file .entry)) at n (rankNumber (now (ranks .entry)))) ⌝ }
+    ensures { λ r. ⌜ Fell (now (ranks .entry)) (now (ranks .exit)) r ⌝ }
 {
-    let known = estimate::offers::sum_at(file, at, n, old);
+    let known = estimate::offers::sum_at(file, at, n, ranks);
+    if NEVER <= known {
+        return false; // never is offered to no effect
+    }
     let effect = at + facts::partial::length_at(file, at);
     let cost = effect + facts::partial::length_at(file, effect);
-    let offer = estimate::sum(known, Est::Exact(facts::number::word_at(file, cost)));
-    estimate::offers::lower_at(file, effect, offer, new);
+    let offer = sum_rank(known, facts::number::word_at(file, cost) as u64);
+    estimate::offers::lower_at(file, effect, offer, ranks)
 }

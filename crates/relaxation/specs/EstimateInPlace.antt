@@ -6,7 +6,6 @@ use Rattle.facts.specs.Partial.{partialAt}
 use Rattle.facts.specs.WellFormed.{WfPartial}
 use Rattle.estimate.specs.Number.{Number, capped, sum, ranked}
 use Rattle.estimate.specs.Additive.{Achiever}
-use Rattle.estimate.specs.Facts.{mostFacts}
 use Rattle.estimate.specs.Ranks.{Roomy}
 use Rattle.taskfile.specs.Task.{maxNodes, WfAction}
 use Rattle.taskfile.specs.TaskFile.{edgeBytes}
@@ -33,9 +32,13 @@ pub record Priceable (f sizes : List ℕ) (at : ℕ) (offsets : List ℕ) : Type
   pub wf : WfAction sizes (actionIn f sizes at offsets)
   pub few : nodeCount f at ≤ maxNodes
 
--- Domain sizes, goal and actions as they stand in a file, well-formed, so that rounds end on their estimate: `actions` has the offset of each action,
+-- an array of ranks has room for so many facts, those of 24 variables
+abbrev pub taskFacts : ℕ
+taskFacts = 1584
+
+-- Domain sizes, goal and actions as they stand in a file, well-formed, so that offers in turn end on their estimate: `actions` has the offset of each action,
 -- `firsts` the index of its first node in `nodes`.
 pub record Estimable (f sizes : List ℕ) (goal : ℕ) (actions firsts nodes : List ℕ) : Type 0 where
-  pub room : Roomy sizes mostFacts
+  pub room : Roomy sizes taskFacts
   pub goal-is : WfPartial sizes (partialAt f goal)
   pub action : (a : ℕ) → a < length actions → Priceable f sizes (getD actions a 0) (drop (getD firsts a 0) nodes)

@@ -1,6 +1,7 @@
 -- Laws of the least cost by the old numbers in place, and of the actions of a task for the heuristic.
 use mathlib.Core.Path.{_≡_, refl, sym, ap, ap₂, subst, _∙_}
-use Prim.Native.Nat.{ℕ, zero, suc, _+_, _-_, _≤_, _<_}
+use mathlib.Core.Bool.{Bool, false, _||_}
+use Prim.Native.Nat.{ℕ, zero, suc, _+_, _-_, _*_, _≤_, _<_}
 use native.Mathlib.Numerals.{add-one}
 use native.Mathlib.Omega.{arith}
 use mathlib.Core.List.{List, [], _∷_, map}
@@ -11,12 +12,17 @@ use Rattle.facts.specs.ListLaws.{all-at}
 use Rattle.facts.specs.Partial.{partialAt, pastPartial}
 use Rattle.facts.specs.Fields.{wordAt}
 use Rattle.estimate.specs.Number.{Number, exact, never, largest, capped, sum, lesser, ranked}
-use Rattle.estimate.specs.Additive.{sumFrom, Offer, offerOf, offersBy, WfAchiever}
-use Rattle.estimate.specs.Ranks.{rankNumber, HasRanks, afterOffer, afterOffers}
-use Rattle.estimate.specs.OfferLaws.{offer-same, Heard, heard-none, heard-more, heard-all}
+use Rattle.estimate.specs.NumberLaws.{sum-never-first, sum-never-second}
+use Rattle.estimate.specs.Additive.{sumFrom, Achiever, WfAchiever}
+use Rattle.estimate.specs.Ranks.{rankNumber, HasRanks, Fell, afterOffer}
+use Rattle.estimate.specs.OfferLaws.{offer-same}
+use Rattle.estimate.specs.FallLaws.{Supported, all-supported}
+use Rattle.estimate.specs.InTurn.{afterOwn, InTurn}
+use Rattle.estimate.specs.InTurnLaws.{Turning, turning-start, turning-more, turning-end}
 use Rattle.taskfile.specs.Task.{Edge, Action, maxWeight, WfAction}
+use Rattle.taskfile.specs.TaskFile.{edgeBytes}
 use Rattle.taskfile.specs.WalkInPlace.{incomingPlace, nodeCount}
-use Rattle.taskfile.specs.PartsInPlace.{nodeIn, actionIn}
+use Rattle.taskfile.specs.PartsInPlace.{edgeIn, nodeIn, actionIn, actionsIn}
 use Rattle.relaxation.specs.Least.{leastOf}
 use Rattle.relaxation.specs.LeastLaws.{map-agree, least-taken}
 use Rattle.relaxation.specs.Pass.{byEdge, leastAt, Filled}
@@ -25,6 +31,7 @@ use Rattle.relaxation.specs.PassInPlaceLaws.{edge-there, node-there, tab
 use Rattle.relaxation.specs.Estimate.{actionAchiever}
 use Rattle.relaxation.specs.EstimatePass.{numberPass, leastCostByPass}
 use Rattle.relaxation.specs.LeastCostLaws.{numbers, upFrom-below}
+use Rattle.relaxation.specs.EstimateRounds.{by-pass-supported}
 use Rattle.relaxation.specs.EstimateInPlace.{numberFor, achieverIn, achieversIn, Priceable, Estimable}
 
 -- a weight is exact
@@ -99,6 +106,11 @@ module _ (f sizes : List ℕ) (of : ℕ → ℕ → Number) (table : List ℕ) (
   number-in-place v-is n-is =
       ap₂ (λ (v n : ℕ). leastOf lesser never (map (numberFor f node of v table) (upFrom 0 n))) v-is (n-is ∙ ap (λ (v : ℕ). getD sizes v 0) v-is) ∙ least-there
 
+-- the edge for a value whose number is never comes to never
+pub number-never : (f : List ℕ) (node : ℕ) (of : ℕ → ℕ → Number) (v : ℕ) (table : List ℕ) (d : ℕ) → of v d ≡ never → never ≡ numberFor f node of v table d
+number-never f node of v table d h =
+    let e = edgeIn f (node + (1 + edgeBytes * d)) in sum-never-second (capped (e .weight)) (sym (sum-never-first (ranked (getD table (e .target) 0)) h))
+
 -- ---- the table of an action in place
 
 module _ {f sizes : List ℕ} {at : ℕ} {offsets : List ℕ} (r : Priceable f sizes at offsets) (of : ℕ → ℕ → Number) where
@@ -126,46 +138,49 @@ module _ {f sizes : List ℕ} {at : ℕ} {offsets : List ℕ} (r : Priceable f s
 -- ---- the offers of actions
 
 -- the offer of the action at an offset, from its parts
-pub action-offered : (f sizes : List ℕ) (at : ℕ) (offsets : List ℕ) (old of : ℕ → ℕ → Number) {effect : ℕ} {offer : Number} {ranks : List ℕ} → effect ≡ pastPartial f at
-    → offer ≡ sum (sumFrom old 0 (length sizes) (partialAt f at)) (leastCostByPass sizes old (actionIn f sizes at offsets))
-    → HasRanks ranks (afterOffer (record { effect = partialAt f effect; number = offer }) of)
-    → HasRanks ranks (afterOffer (offerOf (length sizes) old (achieverIn f sizes at offsets)) of)
-action-offered f sizes at offsets old of e o h = offer-same of (ap (partialAt f) (sym e)) (sym o) h
+pub action-offered : (f sizes : List ℕ) (at : ℕ) (offsets : List ℕ) (of : ℕ → ℕ → Number) {effect : ℕ} {offer : Number} {ranks : List ℕ} → effect ≡ pastPartial f at
+    → offer ≡ sum (sumFrom of 0 (length sizes) (partialAt f at)) (leastCostByPass sizes of (actionIn f sizes at offsets))
+    → HasRanks ranks (afterOffer (record { effect = partialAt f effect; number = offer }) of) → HasRanks ranks (afterOwn (length sizes) (achieverIn f sizes at offsets) of)
+action-offered f sizes at offsets of e o h = offer-same of (ap (partialAt f) (sym e)) (sym o) h
 
-module _ (f sizes actions firsts nodes : List ℕ) (old : ℕ → ℕ → Number) where
+module _ (f sizes actions firsts nodes : List ℕ) where
   -- `count` of them from number a on, and all
-  abbrev from : ℕ → ℕ → List Offer
-  from a count = offersBy (length sizes) old (achieversIn f sizes actions firsts nodes a count)
+  abbrev from : ℕ → ℕ → List Achiever
+  from a count = achieversIn f sizes actions firsts nodes a count
 
-  abbrev all : List Offer
+  abbrev all : List Achiever
   all = from 0 (length actions)
 
-  -- the offers of the actions from number a on are left
-  abbrev pub HeardFrom : ℕ → (ℕ → ℕ → Number) → List ℕ → Type 0
-  HeardFrom a whole ranks = Heard (from a (length actions - a)) whole ranks
+  -- the actions from number a on are left to offer
+  abbrev pub TurningFrom : ℕ → List ℕ → List ℕ → Bool → Type 0
+  TurningFrom a before ranks fell = Turning (length sizes) all (from a (length actions - a)) before ranks fell
 
   -- before the first action
-  pub actions-none : (ranks : List ℕ) → HeardFrom 0 (afterOffers all (rankNumber ranks)) ranks
+  pub actions-none : (ranks : List ℕ) → TurningFrom 0 ranks ranks false
   actions-none ranks =
       let same : length actions ≡ length actions - 0 = omega arith in
-      subst (λ (count : ℕ). Heard (from 0 count) (afterOffers all (rankNumber ranks)) ranks) same (heard-none all ranks)
+      subst (λ (count : ℕ). Turning (length sizes) all (from 0 count) ranks ranks false) same turning-start
 
   -- one action more
-  pub actions-more : (a : ℕ) (whole : ℕ → ℕ → Number) {ranks next own : List ℕ} → HeardFrom a whole ranks → a < length actions → length next ≡ length ranks → own ≡ drop (getD firsts a 0) nodes
-      → HasRanks next (afterOffer (offerOf (length sizes) old (achieverIn f sizes (getD actions a 0) own)) (rankNumber ranks)) → HeardFrom (a + 1) whole next
-  actions-more a whole {ranks} {next} g l same own-is h =
+  pub actions-more : (a : ℕ) {before ranks next own : List ℕ} {x y fell : Bool} → TurningFrom a before ranks x → a < length actions → own ≡ drop (getD firsts a 0) nodes
+      → HasRanks next (afterOwn (length sizes) (achieverIn f sizes (getD actions a 0) own) (rankNumber ranks)) → Fell ranks next y → (x || y) ≡ fell → TurningFrom (a + 1) before next fell
+  actions-more a {before} {ranks} {next} {x = x} g l own-is h =
       let more : length actions - a ≡ suc (length actions - (a + 1)) = omega arith in
-      let first = offerOf (length sizes) old (achieverIn f sizes (getD actions a 0) (drop (getD firsts a 0) nodes)) in
+      let first = achieverIn f sizes (getD actions a 0) (drop (getD firsts a 0) nodes) in
       let split : from a (length actions - a) ≡ first ∷ from (a + 1) (length actions - (a + 1)) =
       ap (from a) more ∙ ap (λ (b : ℕ). first ∷ from b (length actions - (a + 1))) (sym (add-one a)) in
-      heard-more (subst (λ (offers : List Offer). Heard offers whole ranks) split g) same
-      (subst (λ (os : List ℕ). HasRanks next (afterOffer (offerOf (length sizes) old (achieverIn f sizes (getD actions a 0) os)) (rankNumber ranks))) own-is h)
+      turning-more (subst (λ (left : List Achiever). Turning (length sizes) all left before ranks x) split g)
+      (subst (λ (os : List ℕ). HasRanks next (afterOwn (length sizes) (achieverIn f sizes (getD actions a 0) os) (rankNumber ranks))) own-is h)
 
   -- past the last action
-  pub actions-all : (a : ℕ) (whole : ℕ → ℕ → Number) {ranks : List ℕ} → HeardFrom a whole ranks → length actions ≤ a → HasRanks ranks whole
-  actions-all a whole {ranks} g l =
+  pub actions-all : (a : ℕ) {before ranks : List ℕ} {fell : Bool} → TurningFrom a before ranks fell → length actions ≤ a → InTurn (length sizes) all before ranks fell
+  actions-all a {before} {ranks} {fell} g l =
       let none : length actions - a ≡ 0 = omega arith in
-      heard-all (subst (λ (count : ℕ). Heard (from a count) whole ranks) none g)
+      turning-end (subst (λ (count : ℕ). Turning (length sizes) all (from a count) before ranks fell) none g)
+
+  -- their costs are made of numbers by sums and the lesser of two
+  pub actions-supported : All (λ x. Supported (x .cost)) all
+  actions-supported = all-supported (actionAchiever leastCostByPass sizes) (by-pass-supported sizes) (actionsIn f sizes actions firsts nodes 0 (length actions))
 
 -- all are well-formed
 achievers-from : (f sizes actions firsts nodes : List ℕ) (a count : ℕ)

@@ -54,7 +54,7 @@ least-cost-supported sizes x =
     record { falls = λ lower. falls-least lower _ _ (λ s. falls-plus (capped (cost x s)) (falls-values lower (x .nodes) 0 s)) (states (valuations (x .nodes) 0 sizes)) }
 
 -- by one pass
-by-pass-supported : (sizes : List ℕ) (x : Action) → Supported (λ of. leastCostByPass sizes of x)
+pub by-pass-supported : (sizes : List ℕ) (x : Action) → Supported (λ of. leastCostByPass sizes of x)
 unfolding leastCostByPass
 by-pass-supported sizes x = record { falls = λ lower. falls-plus (capped (x .incoming)) (falls-froms lower sizes 1 (x .nodes) 0) }
 

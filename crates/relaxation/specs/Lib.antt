@@ -17,6 +17,6 @@ pub mod LeastByPass
 pub mod RelaxedLaws
 pub mod RelaxedInPlaceLaws
 pub mod LeastCostLaws
+pub mod EstimateRounds
 pub mod EstimateInPlaceLaws
 pub mod EstimateLaws
-pub mod EstimateRounds

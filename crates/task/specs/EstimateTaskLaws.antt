@@ -13,7 +13,7 @@ use Rattle.facts.specs.WellFormed.{WfPartial}
 use Rattle.estimate.specs.Number.{Number}
 use Rattle.estimate.specs.Additive.{additive}
 use Rattle.estimate.specs.AdditiveLaws.{estimate-refused, estimate-turned-down, estimate-answers}
-use Rattle.estimate.specs.LoopLaws.{roomy}
+use Rattle.estimate.specs.RanksLaws.{roomy}
 use Rattle.taskfile.specs.declared.Task.{Task as Index}
 use Rattle.taskfile.specs.Task.{Action, Task, WfAction}
 use Rattle.taskfile.specs.TaskFile.{readTask, checkTask}
@@ -64,7 +64,7 @@ module _ (f : List ℕ) {i : Index} (ready : Ready f i) where
         let limits = task-limits f reads in
         subst (λ (ds : List ℕ). Estimable f ds goal begins (i .firsts) (i .nodes)) (sym (sizes-there f ready e))
         (record {
-          room = roomy (t .sizes) (limits .variables) (omega arith) (limits .sizes) (omega arith) refl;
+          room = roomy (t .sizes) (limits .variables) (omega arith) (limits .sizes) (omega arith) (omega arith);
           goal-is = subst (WfPartial (t .sizes)) (sym goal-is) (task-wf f reads .goal);
           action = priceable;
         })

@@ -1,5 +1,5 @@
 -- `estimate::offers::lower_at` meets its contract: no facts where the file ends inside the map, and else those of the map. Assumes nothing.
-use mathlib.Core.Path.{_≡_, sym, ap, _∙_}
+use mathlib.Core.Path.{_≡_, refl, sym, ap, _∙_}
 use native.Mathlib.Omega.{arith}
 use borrow.Author.Needs.{needs}
 use denote.Ref.{now}
@@ -8,6 +8,7 @@ use Rattle.facts.specs.Answers.{fieldAnswer}
 use Rattle.facts.specs.Fields.{readNumber}
 use Rattle.facts.specs.FieldLaws.{number-read}
 use Rattle.facts.specs.InPlaceLaws.{standing-read, empty-read}
+use Rattle.estimate.specs.RanksLaws.{fell-none}
 use Rattle.estimate.specs.OfferLaws.{offer-empty, offer-same}
 use Rattle.estimate.proofs.offers.lower_at.Statement.{statement}
 use Rattle.estimate.proofs.offers.lower_at.Tie as tie
@@ -24,12 +25,11 @@ lower-at-spec =
     (λ c. search needs)
     (λ c. omega (arith, number-read _ 8 _ (map-is (c .before)) .fits))
     (λ c κs. search needs)
-    (λ c κs. search needs)
     (λ c.
     let a = c .before .before .before .before .before .args in
-    offer-empty _ _ (empty-read (now (a .file)) (a .at) (sym (c .before .before .read-map .ensures) ∙ ap fieldAnswer (c .enum-told .given .1))))
+    (offer-empty _ _ (empty-read (now (a .file)) (a .at) (sym (c .before .before .read-map .ensures) ∙ ap fieldAnswer (c .enum-told .given .1))), fell-none _))
     (λ c. search needs)
     (λ c.
     let call = c .before .before in
-    let map = call .before .before .before .before in
-    offer-same _ (standing-read _ _ (map-is map)) (sym (call .before .before .rank .ensures)) (call .values-lowered .ensures)))
+    let map = call .before .before .before in
+    (offer-same _ (standing-read _ _ (map-is map)) refl (call .values-lowered .ensures .0), call .values-lowered .ensures .1)))

@@ -1,39 +1,40 @@
 -- `probe::rounds::offer_steps` meets its contract: the offers of the steps that are left make the whole. Assumes nothing.
 use mathlib.Core.Path.{_≡_, refl, _∙_}
+use mathlib.Core.Logic.{inl, inr}
 use Prim.Native.Nat.{_-_, _≤_}
 use native.Mathlib.Omega.{arith}
-use mathlib.Core.List.{map}
 use lib.ListN.{length}
 use denote.Ref.{now}
 use borrow.Author.Needs.{needs}
-use Rattle.estimate.specs.Additive.{offersBy}
-use Rattle.estimate.specs.Ranks.{rankNumber, afterOffers}
-use Rattle.estimate.specs.OfferLaws.{heard-none}
-use Rattle.probe.specs.Estimate.{achieverAt}
-use Rattle.probe.specs.EstimateLaws.{HeardFrom, steps-more, steps-all}
+use Rattle.estimate.specs.RanksLaws.{or-first, or-second}
+use Rattle.estimate.specs.InTurnLaws.{turning-start}
+use Rattle.probe.specs.EstimateLaws.{TurningFrom, steps-more, steps-all}
 use Rattle.probe.proofs.rounds.offer_steps.Statement.{statement}
 use Rattle.probe.proofs.rounds.offer_steps.Tie as tie
 
 abbrev Inv-loop : tie.InvT-loop
-Inv-loop file offsets n old new₀ k₀ end new k =
-    (k ≤ length offsets) × (length new ≡ length new₀) × HeardFrom file offsets n (rankNumber old) k (afterOffers (offersBy n (rankNumber old) (map (achieverAt file) offsets)) (rankNumber new₀)) new
+Inv-loop file offsets n ranks₀ fell₀ k₀ end ranks fell k = (k ≤ length offsets) × (length ranks ≡ length ranks₀) × TurningFrom file offsets n k ranks₀ ranks fell
 
 abbrev μ-loop : tie.MeasureT-loop
-μ-loop file offsets n old new₀ k₀ end new k = length offsets - k
+μ-loop file offsets n ranks₀ fell₀ k₀ end ranks fell k = length offsets - k
 
 loop-again : tie.Need-loop-again Inv-loop μ-loop
 loop-again c =
-    let call = c .before .before in
+    let call = c .before .before .before in
     let l = call .before .before .before .before .loop in
-    let a = call .before .before .before .before .before .before .before .before .before .args in
-    let same = c .before .new .given in
-    (omega arith, same ∙ l .inv .1, steps-more (now (a .file)) (now (a .offsets)) (a .n) (rankNumber (now (a .old))) (l .k) _ (l .inv .2) (omega arith) same (call .offer-step .ensures))
+    let a = call .before .before .before .before .before .before .before .before .args in
+    let offered = call .offer-step .ensures in (
+      omega arith,
+      offered .1 .count ∙ l .inv .1,
+      steps-more (now (a .file)) (now (a .offsets)) (a .n) (l .k) (l .inv .2) (omega arith) (offered .0) (offered .1)
+          (elim (c .if1 .came) [ inl t ↦ or-first _ (t .0 .taken) (t .1) | inr t ↦ or-second (t .0 .left) (t .1) ]),
+    )
 
 returns : tie.Need-returns Inv-loop μ-loop
 returns c =
     let l = c .before .loop in
-    let a = c .before .before .before .before .before .before .args in
-    steps-all (now (a .file)) (now (a .offsets)) (a .n) (rankNumber (now (a .old))) (l .k) _ (l .inv .2) (omega arith)
+    let a = c .before .before .before .before .before .args in
+    steps-all (now (a .file)) (now (a .offsets)) (a .n) (l .k) (l .inv .2) (omega arith)
 
 pub offer-steps-spec : {M : Type 1} → statement M
 offer-steps-spec =
@@ -41,10 +42,10 @@ offer-steps-spec =
     (tie.spec
     Inv-loop
     μ-loop
-    (λ c. (omega arith, refl, heard-none _ _))
+    (λ c. (omega arith, refl, turning-start))
     (λ c. search needs)
     (λ c. omega arith)
-    (λ c κs. c .before .before .before .before .before .before .before .before .pre (c .before .before .before .loop .k) (omega arith))
+    (λ c κs. c .before .before .before .before .before .before .before .pre (c .before .before .before .loop .k) (omega arith))
     (λ c. omega arith)
     (λ c. omega arith)
     loop-again

@@ -1,11 +1,12 @@
 -- `task::price::least_cost` meets its contract: the table has the rank of the least from each number above k on. Assumes nothing.
 use Prim.Native.Nat.{_≤_}
 use mathlib.Core.Path.{_≡_, refl, ap, _∙_}
-use lib.ListN.{length, length-set}
+use lib.ListN.{length, getD, length-set}
 use native.Mathlib.Omega.{arith}
 use denote.Ref.{now}
 use Rattle.taskfile.specs.PartsInPlace.{actionIn}
-use Rattle.estimate.specs.Number.{exact, sum, ranked}
+use Rattle.estimate.specs.Number.{sum, ranked}
+use Rattle.estimate.specs.NumberLaws.{ranked-exact}
 use Rattle.estimate.specs.Ranks.{rankNumber}
 use Rattle.relaxation.specs.Pass.{Filled}
 use Rattle.relaxation.specs.EstimatePass.{numberPass}
@@ -23,23 +24,25 @@ abbrev μ-loop : tie.MeasureT-loop
 
 loop-again : tie.Need-loop-again Inv-loop μ-loop
 loop-again c =
-    let s = c .before .before .before .before .before .before .before .before .before .before .before in
-    let l = c .before .before .before .before .before .loop in
-    let d = c .before .before .before .before .before .before .diagram-at .ensures in
-    let e = c .rank .result in
-    let up = c .before .before .before .before .loop-test .taken in (
+    let s = c .before .before .before .before .before .before .before .before .before .before in
+    let l = c .before .before .before .before .loop in
+    let d = c .before .before .before .before .before .diagram-at .ensures in
+    let e = c .least-rank .result in
+    let up = c .before .before .before .loop-test .taken in (
       omega (arith, l .inv .0),
       length-set (l .least) (l .k) e ∙ l .inv .1,
-      ranked-next (s .pre) (rankNumber (now (s .args .ranks))) e (omega (arith, l .inv .0, d .1, up)) (c .before .before .before .offset-at .ensures) (omega (arith, up)) (l .inv .2) (omega (arith, l .inv .0, l .inv .1, d .1, s .pre .few)) (c .rank .ensures ∙ c .before .least-number .ensures),
+      ranked-next (s .pre) (rankNumber (now (s .args .ranks))) e (omega (arith, l .inv .0, d .1, up)) (c .before .before .offset-at .ensures) (omega (arith, up)) (l .inv .2) (omega (arith, l .inv .0, l .inv .1, d .1, s .pre .few)) (c .least-rank .ensures),
     )
 
 returns : tie.Need-returns Inv-loop μ-loop
 returns c =
-    let s = c .before .before .before .before .before .before .before .before .before in
-    let d = c .before .before .before .before .diagram-at in
-    c .sum .ensures
-    ∙ ap (sum (exact (d .result .incoming))) (c .before .ranked .ensures)
-    ∙ ranked-end (s .pre) (rankNumber (now (s .args .ranks))) (d .ensures .0) (d .ensures .2) (omega (arith, c .before .before .loop-test .left)) (c .before .before .before .loop .inv .2)
+    let end = c .before .before in
+    let l = end .before .loop in
+    let d = end .before .before .diagram-at in
+    let s = end .before .before .before .before .before .before .before in
+    c .sum-rank .ensures
+    ∙ ap (λ a. sum a (ranked (getD (l .least) 1 0))) (ranked-exact (d .result .incoming) (omega (arith, d .ensures .2)))
+    ∙ ranked-end (s .pre) (rankNumber (now (s .args .ranks))) (d .ensures .0) (d .ensures .2) (omega (arith, end .loop-test .left)) (l .inv .2)
 
 pub least-cost-spec : {M : Type 1} → statement M
 least-cost-spec =
@@ -53,13 +56,12 @@ least-cost-spec =
     (λ c κs. search needs)
     (λ c. search needs)
     (λ c κs. search needs)
-    (λ c κs. search needs)
-    (λ c. omega (arith, c .before .before .before .before .before .loop .inv .0, c .before .before .before .before .before .before .diagram-at .ensures .3))
-    (λ c. omega (arith, c .before .before .before .before .before .loop .inv .0, c .before .before .before .before .before .before .diagram-at .ensures .1, c .before .before .before .before .before .before .before .before .before .before .before .pre .few))
-    (λ c. omega (arith, c .before .before .before .before .loop-test .taken))
-    (λ c. omega (arith, c .before .before .before .before .loop-test .taken))
+    (λ c. omega (arith, c .before .before .before .before .loop .inv .0, c .before .before .before .before .before .diagram-at .ensures .3))
+    (λ c. omega (arith, c .before .before .before .before .loop .inv .0, c .before .before .before .before .before .diagram-at .ensures .1, c .before .before .before .before .before .before .before .before .before .before .pre .few))
+    (λ c. omega (arith, c .before .before .before .loop-test .taken))
+    (λ c. omega (arith, c .before .before .before .loop-test .taken))
     loop-again
+    (λ c. omega (arith, c .before .before .before .diagram-at .ensures .2))
     (λ c. search needs)
-    (λ c κs. search needs)
     (λ c κs. search needs)
     returns)
