@@ -1,15 +1,14 @@
 -- Laws of expanding as the code does it: the numbers of the starts, the actions of a list one after the other, and the ways in which the operation can go.
-use mathlib.Core.Path.{_≡_, refl, sym, ap, subst, _∙_}
+use mathlib.Core.Path.{_≡_, sym, ap, subst, _∙_}
 use Prim.Native.Nat.{ℕ, zero, suc, _+_, _*_, _-_, _≤_, _<_}
 use native.Mathlib.Numerals.{add-one}
-use native.Mathlib.Decide.{ℕ-discrete}
 use native.Mathlib.Omega.{arith}
 use mathlib.Core.List.{List, [], _∷_}
-use lib.ListN.{length, getD, take, drop, set, length-set, drop-of-length-le}
-use lib.Seq.{drop-cons, getD-set-same, getD-set-other}
+use lib.ListN.{length, getD, take, drop, drop-of-length-le}
+use lib.Seq.{drop-cons}
 use borrow.Rule.Slice.PartMut.{putMid}
-use Rattle.facts.specs.Lists.{total, At, here, there}
-use Rattle.facts.specs.ListLaws.{look, at-length}
+use Rattle.facts.specs.Lists.{total, At}
+use Rattle.facts.specs.ListLaws.{look}
 use Rattle.facts.specs.Read.{Read, accepted, refused, _>>=_}
 use Rattle.facts.specs.ReadLaws.{through, not-made, bind-assoc}
 use Rattle.facts.specs.Partial.{Partial, apply, partialBytes, partialAt, pastPartial}
@@ -28,73 +27,17 @@ use Rattle.taskfile.specs.WalkInPlace.{passesAt, runList}
 use Rattle.taskfile.specs.MoveInPlaceLaws.{passed-in-place}
 use Rattle.taskfile.specs.AnswerLaws.{there as task-there, starts, starts-count}
 use Rattle.probe.specs.Probe.{maxList as maxProbeList}
-use Rattle.compilation.specs.Compile.{edgeCount, stepCount}
-use Rattle.compilation.specs.StepLaws.{steps-length, steps-most}
+use Rattle.compilation.specs.Compile.{stepCount}
 use Rattle.taskfile.specs.PartsInPlace.{actionIn, actionsIn, Stood}
 use Rattle.compile.specs.PutLaws.{Cut, Going, going-more}
 use Rattle.taskfile.specs.PartsInPlaceLaws.{reads, located, actions-stood, actions-in-place}
-use Rattle.plans.specs.Carry.{firstStep, actionList, expandFrom, expand}
+use Rattle.plans.specs.Carry.{actionList, expandFrom, expand}
 use Rattle.plans.specs.ListLaws.{total-take}
 use Rattle.plans.specs.LengthLaws.{expand-passed, expand-fits}
 use Rattle.carry.specs.CarryFile.{expanded}
 use Rattle.carry.specs.InPlace.{Numbered, passedTask, Planned, expansion, Prepared}
+use Rattle.carry.specs.NumberLaws.{actions-long, actions-at, actionsOf, actions-are, steps-few}
 use Rattle.carry.specs.SameSumLaws.{expanded-plan, fits-inv}
-
--- ---- actions in place, by number
-
-module _ (f sizes actions firsts nodes : List ℕ) where
-  -- As many actions as are asked for.
-  pub actions-long : (a count : ℕ) → length (actionsIn f sizes actions firsts nodes a count) ≡ count
-  actions-long a zero = refl
-  actions-long a (suc count) = ap suc (actions-long (suc a) count)
-
-  -- The action of each number, from number a on.
-  actions-from : (a count j k : ℕ) → j < count → k ≡ a + j → At (actionsIn f sizes actions firsts nodes a count) j (actionIn f sizes (getD actions k 0) (drop (getD firsts k 0) nodes))
-  actions-from a zero j k h e = absurd (omega arith)
-  actions-from a (suc count) zero k h e = let same : a ≡ k = omega arith in rw same here
-  actions-from a (suc count) (suc j) k h e = there (actions-from (suc a) count j k (omega arith) (omega arith))
-
-  -- The same from number 0 on.
-  pub actions-at : (a count : ℕ) → a < count → At (actionsIn f sizes actions firsts nodes 0 count) a (actionIn f sizes (getD actions a 0) (drop (getD firsts a 0) nodes))
-  actions-at a count h = actions-from 0 count a a h (omega arith)
-
--- ---- the numbers of the starts
-
--- The start of the next action comes after all steps of this one.
-first-next : {actions : List Action} {a : ℕ} {x : Action} → At actions a x → firstStep actions (suc a) ≡ firstStep actions a + stepCount x
-first-next here = omega arith
-first-next (there h) = omega (arith, first-next h)
-
--- the starts before that of action a are noted in `now`, and `next` is the number of a's
-pub record Numbering (actions : List Action) (before now : List ℕ) (next a : ℕ) : Type 0 where
-  pub within : a ≤ length actions
-  pub numbers : (b : ℕ) → b < a → getD now b 0 ≡ firstStep actions b
-  pub next-is : next ≡ firstStep actions a
-  pub few : next ≤ 65027 * a
-  pub same : length now ≡ length before
-
--- At first none are.
-pub numbering-start : (actions : List Action) (out : List ℕ) → Numbering actions out out 0 0
-numbering-start actions out = record { within = omega arith; numbers = λ b h. absurd (omega arith); next-is = refl; few = omega arith; same = refl }
-
--- Then one more is.
-pub numbering-next : {actions : List Action} {before now : List ℕ} {next a edges : ℕ} {x : Action} → Numbering actions before now next a → At actions a x → a < length before
-    → edges ≡ total edgeCount (x .nodes) → edges ≤ 65025 → Numbering actions before (set now a next) (next + (2 + edges)) (a + 1)
-numbering-next {actions} {before} {now} {next} {a} {edges} n h room e few = record {
-  within = omega (arith, at-length h);
-  numbers = λ b l.
-      elim (ℕ-discrete b a) [
-        | yes same ↦ rw same (getD-set-same now a next 0 (omega (arith, n .same)) ∙ n .next-is)
-        | no other ↦ getD-set-other now a b next 0 other ∙ n .numbers b (omega arith)
-      ];
-  next-is = rw (add-one a) (omega (arith, n .next-is, e, first-next h));
-  few = omega (arith, n .few);
-  same = length-set now a next ∙ n .same;
-}
-
--- At last all are.
-pub numbering-end : {actions : List Action} {before now : List ℕ} {next a : ℕ} → Numbering actions before now next a → length actions ≤ a → Numbered actions now
-numbering-end n l = record { numbers = λ b h. n .numbers b (omega arith) }
 
 -- ---- the run of a list
 
@@ -122,11 +65,11 @@ pub record Entry (f sizes actions firsts nodes list s : List ℕ) (i at : ℕ) (
 -- Each entry of a list has its action.
 pub entry-there : {f sizes actions firsts nodes first-step list : List ℕ} (p : Prepared f sizes actions firsts nodes first-step list) (s : List ℕ) {i at : ℕ} {own : List ℕ} {first : ℕ} → i < length list
     → at ≡ getD actions (getD list i 0) 0 → own ≡ drop (getD firsts (getD list i 0) 0) nodes → first ≡ getD first-step (getD list i 0) 0 → Entry f sizes actions firsts nodes list s i at own first
-entry-there {f} {sizes} {actions} {firsts} {nodes} {first-step} {list} p s {i} l h o n =
+entry-there {f} {sizes} {actions} {firsts} {nodes} {list = list} p s {i} l h o n =
     let a = getD list i 0 in
     let known = p .known i l in
     let element = actions-at f sizes actions firsts nodes a (length actions) known in
-    let number = p .starts .numbers a (at-length element) in
+    let number = p .starts a (omega arith) in
     rw (h, o, n ∙ number)
     (record {
       stood = p .stood a known;
@@ -206,34 +149,30 @@ module _ (f : List ℕ) {i : Index} (ready : Ready f i) where
   abbrev t : Task
   t = task-there f ready .task
 
-  -- the actions in place, with these domain sizes
-  abbrev actionsOf : List ℕ → List Action
-  actionsOf sizes = actionsIn f sizes (take (i .actions) (i .starts)) (i .firsts) (i .nodes) 0 (length (take (i .actions) (i .starts)))
-
   -- The initial values are inside the domains.
   pub init-inside : {sizes state : List ℕ} → sizes ≡ t .sizes → state ≡ t .init → Inside sizes state
   init-inside e s = rw (e, s) (task-wf f (reads f ready) .init)
 
   module _ {list : List ℕ} (p : Planned f list) where
     -- All is prepared to write the expansion of a plan.
-    pub prepared : {sizes first-step : List ℕ} → sizes ≡ t .sizes → Numbered (actionsOf sizes) first-step → Prepared f sizes (take (i .actions) (i .starts)) (i .firsts) (i .nodes) first-step list
-    prepared {sizes} {first-step} e n =
+    pub prepared : {sizes first-step first-edge : List ℕ} → sizes ≡ t .sizes → Numbered (actionsOf f ready sizes) (i .firsts) first-step first-edge → Prepared f sizes (take (i .actions) (i .starts)) (i .firsts) (i .nodes) first-step list
+    prepared {sizes} e n =
         let wf = task-wf f (reads f ready) in
         let count = length (take (i .actions) (i .starts)) in
-        let same : actionsOf sizes ≡ t .actions = rw e (actions-in-place f ready) in
+        let same = actions-are f ready e in
         record {
           stood = actions-stood f ready e;
           well-formed = λ a l.
               let x = actionIn f sizes (getD (take (i .actions) (i .starts)) a 0) (drop (getD (i .firsts) a 0) (i .nodes)) in
               let element = subst (λ (xs : List Action). At xs a x) same (actions-at f sizes (take (i .actions) (i .starts)) (i .firsts) (i .nodes) a count l) in
               subst (λ (ds : List ℕ). WfAction ds x) (sym e) (wf .actions element);
-          starts = n;
-          few = omega (arith, ap (total stepCount) same, steps-length t, steps-most t wf (task-limits f (reads f ready)));
+          starts = λ a l. n .numbers a (omega (arith, actions-long f sizes (take (i .actions) (i .starts)) (i .firsts) (i .nodes) 0 count));
+          few = omega (arith, ap (total stepCount) same, steps-few f ready);
           known = λ k l. omega (arith, reaches-known (t .actions) (t .goal) list (t .init) 0 (p .sum) (ran-plan f (reads f ready) list (p .runs) .plan) k l, starts-count f ready);
         }
 
     -- What is written from the initial state on is the expansion.
-    pub entries-are : {sizes state : List ℕ} → sizes ≡ t .sizes → state ≡ t .init → expandFrom (actionsOf sizes) list state ≡ expansion f list
+    pub entries-are : {sizes state : List ℕ} → sizes ≡ t .sizes → state ≡ t .init → expandFrom (actionsOf f ready sizes) list state ≡ expansion f list
     unfolding expand
     entries-are e s = rw (e, s, actions-in-place f ready) (sym (expansion-is f (reads f ready) list (ran-plan f (reads f ready) list (p .runs))))
 

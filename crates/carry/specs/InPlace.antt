@@ -1,24 +1,37 @@
 -- What code knows of a task's steps and of a list before it carries the list across, and the list of actions by what was noted.
 use mathlib.Core.Path.{_≡_}
-use Prim.Native.Nat.{ℕ, zero, suc, _<_, _≤_}
+use Prim.Native.Nat.{ℕ, zero, suc, _+_, _<_, _≤_}
 use mathlib.Core.List.{List, [], _∷_}
 use mathlib.Core.Option.{none, some}
 use lib.Dec.{ltb}
-use lib.ListN.{length, getD, set, drop}
+use lib.ListN.{length, getD, set, take, drop}
 use Rattle.facts.specs.Read.{Read, accepted, check, _>>=_, refused}
 use Rattle.facts.specs.Run.{atMost, runFrom}
-use Rattle.taskfile.specs.Task.{Action, Task, maxList, actionPasses, WfAction}
+use Rattle.taskfile.specs.Task.{Node, Action, Task, maxList, actionPasses, WfAction}
 use Rattle.taskfile.specs.TaskFile.{readTask, runTask}
 use Rattle.probe.specs.Probe.{probeSum, maxList as maxProbeList}
-use Rattle.compilation.specs.Compile.{probeOf, stepCount}
+use Rattle.compilation.specs.Compile.{probeOf, edgeCount, stepCount}
 use Rattle.plans.specs.Carry.{firstStep, startedBy}
-use Rattle.facts.specs.Lists.{total}
+use Rattle.facts.specs.Lists.{total, At}
+use Rattle.taskfile.specs.InPlace.{nodesBefore}
 use Rattle.taskfile.specs.PartsInPlace.{actionIn, actionsIn, Stood}
 use Rattle.carry.specs.CarryFile.{expanded}
 
--- `first-step` has the number of each action's start
-pub record Numbered (actions : List Action) (first-step : List ℕ) : Type 0 where
-  pub numbers : (a : ℕ) → a < length actions → getD first-step a 0 ≡ firstStep actions a
+-- There are at most 576 steps, `firsts` has for each action how many nodes the actions before it have, and there is room for so many nodes.
+pub record Rows (actions : List Action) (firsts : List ℕ) (room : ℕ) : Type 0 where
+  pub few : total stepCount actions ≤ 576
+  pub first-is : {a : ℕ} {x : Action} → At actions a x → getD firsts a 0 ≡ nodesBefore actions a
+  pub fits : total (λ x. length (x .nodes)) actions ≤ room
+
+-- `first-edge` has the number of the first edge of each of these nodes, where `from` is the first node's
+pub record Edges (nodes : List Node) (from : ℕ) (first-edge : List ℕ) : Type 0 where
+  pub number : (j : ℕ) → j < length nodes → getD first-edge j 0 ≡ from + total edgeCount (take j nodes)
+
+-- `first-step` has the number of each action's start, and past the last the number of all steps; `first-edge` has, from each action's first node on, the number of the first
+-- edge of each of its nodes
+pub record Numbered (actions : List Action) (firsts first-step first-edge : List ℕ) : Type 0 where
+  pub numbers : (a : ℕ) → a ≤ length actions → getD first-step a 0 ≡ firstStep actions a
+  pub edges : {a : ℕ} {x : Action} → At actions a x → Edges (x .nodes) (1 + firstStep actions a) (drop (getD firsts a 0) first-edge)
 
 -- `action-of` has at the number of each start 1 and the number of its action, and at every other number 0
 pub record Noted (actions : List Action) (action-of : List ℕ) : Type 0 where
@@ -79,6 +92,6 @@ expansion f list = elim (expanded f list) [ accepted c ↦ c .0 | refused n p �
 pub record Prepared (f sizes actions firsts nodes first-step list : List ℕ) : Type 0 where
   pub stood : (a : ℕ) → a < length actions → Stood f sizes (getD actions a 0) (drop (getD firsts a 0) nodes)
   pub well-formed : (a : ℕ) → a < length actions → WfAction sizes (actionIn f sizes (getD actions a 0) (drop (getD firsts a 0) nodes))
-  pub starts : Numbered (actionsIn f sizes actions firsts nodes 0 (length actions)) first-step
+  pub starts : (a : ℕ) → a ≤ length actions → getD first-step a 0 ≡ firstStep (actionsIn f sizes actions firsts nodes 0 (length actions)) a
   pub few : total stepCount (actionsIn f sizes actions firsts nodes 0 (length actions)) ≤ 576
   pub known : (i : ℕ) → i < length list → getD list i 0 < length actions

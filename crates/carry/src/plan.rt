@@ -1,6 +1,6 @@
 // A list of actions: run, and its probe list written.
 use crate::path::put_action;
-use crate::starts::number_starts;
+use crate::starts::number_steps;
 use facts::number::offset_at;
 use facts::number::offset_within;
 use facts::partial::apply_at;
@@ -58,8 +58,17 @@ pub fn put_plan(file: &[u8], task: Task, list: &[u16], out: &mut [u16]) -> usize
     let last = 1 + variables;
     let sizes = &file[1..last];
     let action_at = &starts[..actions];
-    let mut first_step = [0; 32];
-    number_starts(file, sizes, action_at, &firsts, &nodes, &mut first_step);
+    let mut first_step = [0; 33];
+    let mut first_edge = [0; 64];
+    number_steps(
+        file,
+        sizes,
+        action_at,
+        &firsts,
+        &nodes,
+        &mut first_step,
+        &mut first_edge,
+    );
     let mut state = initial(file, variables);
     put_list(
         file,

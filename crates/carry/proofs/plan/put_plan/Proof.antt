@@ -8,6 +8,7 @@ use lib.ListN.{length, take, drop}
 use lib.Seq.{length-take-le}
 use Rattle.facts.specs.Write.{Wrote}
 use Rattle.taskfile.specs.AnswerLaws.{There, there, Starts, starts}
+use Rattle.carry.specs.NumberLaws.{rows-there}
 use Rattle.carry.specs.ExpandLaws.{init-inside, prepared, entries-are}
 use borrow.Author.Needs.{needs}
 use Rattle.carry.proofs.plan.put_plan.Statement.{statement}
@@ -32,24 +33,24 @@ starts-long : (c : tie.Start) → length (take (c .args .task .actions) (c .args
 starts-long c = length-take-le (c .args .task .actions) (c .args .task .starts) (few c)
 
 -- the state has a value for each variable, and they are the initial ones
-long : (c : tie.After-initial) → c .before .before .before .before .before .before .before .before .before .before .before .before .before .before .args .task .variables ≤ length (c .initial .result)
-long c = omega (arith, c .initial .ensures .1, begins (c .before .before .before .before .before .before .before .before .before .before .before .before .before .before) .variables)
+long : (c : tie.After-initial) → c .before .before .before .before .before .before .before .before .before .before .before .before .before .before .before .before .args .task .variables ≤ length (c .initial .result)
+long c = omega (arith, c .initial .ensures .1, begins (c .before .before .before .before .before .before .before .before .before .before .before .before .before .before .before .before) .variables)
 
-state-is : (c : tie.After-initial) → take (c .before .before .before .before .before .before .before .before .before .before .before .before .before .before .args .task .variables) (c .initial .result) ≡ task (c .before .before .before .before .before .before .before .before .before .before .before .before .before .before) .task .init
-state-is c = c .initial .ensures .0 ∙ begins (c .before .before .before .before .before .before .before .before .before .before .before .before .before .before) .init
+state-is : (c : tie.After-initial) → take (c .before .before .before .before .before .before .before .before .before .before .before .before .before .before .before .before .args .task .variables) (c .initial .result) ≡ task (c .before .before .before .before .before .before .before .before .before .before .before .before .before .before .before .before) .task .init
+state-is c = c .initial .ensures .0 ∙ begins (c .before .before .before .before .before .before .before .before .before .before .before .before .before .before .before .before) .init
 
 put-list-requires : tie.Need-put-list-requires
 put-list-requires c κs =
-    let s = c .before .before .before .before .before .before .before .before .before .before .before .before .before .before .before .before .before .before .before in
+    let s = c .before .before .before .before .before .before .before .before .before .before .before .before .before .before .before .before .before .before .before .before .before in
     let f = now (s .args .file) in
     let state = state-is (c .before .before .before .before .before) in (
-      (prepared f (s .pre .0 .0) (s .pre .0 .1) (sizes-are s) (c .before .before .before .before .before .before .before .number-starts .ensures), init-inside f (s .pre .0 .0) (sizes-are s) state),
+      (prepared f (s .pre .0 .0) (s .pre .0 .1) (sizes-are s) (c .before .before .before .before .before .before .before .before .number-steps .ensures), init-inside f (s .pre .0 .0) (sizes-are s) state),
       subst (λ (l : List ℕ). length l ≤ length (now (s .args .out))) (sym (entries-are f (s .pre .0 .0) (s .pre .0 .1) (sizes-are s) state)) (s .pre .1),
     )
 
 returns : tie.Need-returns
 returns c =
-    let s = c .before .before .before .before .before .before .before .before .before .before .before .before .before .before .before .before .before .before .before .before .before .before .before in
+    let s = c .before .before .before .before .before .before .before .before .before .before .before .before .before .before .before .before .before .before .before .before .before .before .before .before .before in
     subst (λ (l : List ℕ). Wrote l (now (s .args .out)) (c .before .before .before .put-list .last .1 .1 .1 .1 .1 .1 .1 .1 .0) (c .before .before .before .put-list .result))
     (entries-are (now (s .args .file)) (s .pre .0 .0) (s .pre .0 .1) (sizes-are s) (state-is (c .before .before .before .before .before .before .before .before .before))) (c .before .before .before .put-list .ensures)
 
@@ -66,13 +67,14 @@ put-plan-spec =
     (λ c. search needs)
     (λ c. search needs)
     (λ c. search needs)
-    (λ c κs. let s = c .before .before .before .before .before .before .before .before .before .before .before in (omega (arith, starts-long s, begins s .actions), omega (arith, starts-long s, begins s .actions)))
-    (λ c κs. let b = begins (c .before .before .before .before .before .before .before .before .before .before .before .before .before) in (b .variables, b .fits))
+    (λ c. search needs)
+    (λ c κs. let s = c .before .before .before .before .before .before .before .before .before .before .before .before in (omega (arith, starts-long s, begins s .actions), rows-there (now (s .args .file)) (s .pre .0 .0) (sizes-are s) (omega arith)))
+    (λ c κs. let b = begins (c .before .before .before .before .before .before .before .before .before .before .before .before .before .before .before) in (b .variables, b .fits))
     (λ c. search needs)
     (λ c. search needs)
     (λ c. search needs)
     (λ c. long (c .before .before .before))
-    (λ c. sym (length-take-le (c .before .before .before .before .before .before .before .before .before .before .before .before .before .before .before .before .before .before .args .task .variables) (c .before .before .before .before .initial .result) (long (c .before .before .before .before))))
+    (λ c. sym (length-take-le (c .before .before .before .before .before .before .before .before .before .before .before .before .before .before .before .before .before .before .before .before .args .task .variables) (c .before .before .before .before .initial .result) (long (c .before .before .before .before))))
     put-list-requires
     (λ c. search needs)
     returns)
