@@ -53,7 +53,7 @@ lent-nodes f sizes nodes at n e c = ap₂ (λ (own : List ℕ) (m : ℕ). nodesI
 
 module _ {A : Type 0} (size : A → ℕ) where
   -- The next element comes after this one.
-  total-next : {xs : List A} {a : ℕ} {x : A} → At xs a x → total size (take (suc a) xs) ≡ total size (take a xs) + size x
+  pub total-next : {xs : List A} {a : ℕ} {x : A} → At xs a x → total size (take (suc a) xs) ≡ total size (take a xs) + size x
   total-next here = omega arith
   total-next (there h) = omega (arith, total-next h)
 
