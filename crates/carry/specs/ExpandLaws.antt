@@ -6,7 +6,7 @@ use Prim.Native.Nat.{ℕ, suc, _+_, _*_, _-_, _≤_, _<_}
 use native.Mathlib.Numerals.{add-one}
 use native.Mathlib.Omega.{arith}
 use mathlib.Core.List.{List, [], _∷_}
-use lib.ListN.{length, getD, getElem?, take, drop, set, drop-of-length-le}
+use lib.ListN.{length, getD, getElem?, take, drop, set, length-append, drop-of-length-le}
 use lib.Seq.{drop-cons}
 use borrow.Rule.Slice.PartMut.{putMid}
 use Rattle.facts.specs.Lists.{total, At}
@@ -26,11 +26,12 @@ use Rattle.taskfile.specs.TaskReadLaws.{task-wf, task-limits}
 use Rattle.taskfile.specs.TaskLaws.{task-plan}
 use Rattle.taskfile.specs.WalkLaws.{passed-most}
 use Rattle.taskfile.specs.Index.{Ready}
-use Rattle.taskfile.specs.WalkInPlace.{walkAt, performBy, performAt}
+use Rattle.taskfile.specs.WalkInPlace.{incomingPlace, walkAt, performBy, performAt}
 use Rattle.taskfile.specs.AnswerLaws.{there as task-there}
 use Rattle.compilation.specs.Compile.{stepCount}
 use Rattle.taskfile.specs.PartsInPlace.{actionIn, actionsIn}
-use Rattle.taskfile.specs.PartsInPlaceLaws.{reads, actions-in-place}
+use Rattle.taskfile.specs.PartsInPlaceLaws.{reads, actions-stood, actions-in-place}
+use Rattle.compile.specs.ExtentLaws.{weighs}
 use Rattle.compile.specs.PutLaws.{Cut, Going, going-more, going-end}
 use Rattle.plans.specs.Carry.{actionList, expandFrom, expand}
 use Rattle.plans.specs.ListLaws.{total-take}
@@ -79,7 +80,7 @@ pub record Entry (f sizes actions firsts nodes list s : List ℕ) (i at : ℕ) (
   pub cut : Cut (expandFrom (actionsIn f sizes actions firsts nodes 0 (length actions)) (drop i list) s) (actionList first (actionIn f sizes at own) s)
       (expandFrom (actionsIn f sizes actions firsts nodes 0 (length actions)) (drop (i + 1) list) (apply (partialAt f (pastPartial f at)) s))
 
-module _ {f sizes actions firsts nodes first-step first-edge : List ℕ} (p : Prepared f sizes actions firsts nodes first-step first-edge) where
+module _ {f sizes actions incoming firsts nodes first-step first-edge : List ℕ} (p : Prepared f sizes actions incoming firsts nodes first-step first-edge) where
   abbrev actionsHere : List Action
   actionsHere = actionsIn f sizes actions firsts nodes 0 (length actions)
 
@@ -125,6 +126,10 @@ module _ {f sizes actions firsts nodes list s : List ℕ} {i at : ℕ} {own row 
         → Going whole (expandFrom (actionsIn f sizes actions firsts nodes 0 (length actions)) (drop (i + 1) list) after) before (putMid written (length now - written) now last) (written + k)
     entry-next going fits w = rw (applied-state f at own s (λ w. w .cost) h) (going-more going fits (e .cut) w)
 
+-- No more is written than there is.
+pub going-few : {whole rest before now : List ℕ} {at : ℕ} → Going whole rest before now at → at ≤ length whole
+going-few {rest = rest} g = omega (arith, g .wrote .count, ap length (g .left) ∙ length-append (g .done) rest)
+
 -- A list that is refused has nothing to be written.
 pub wrote-not : {n p : ℕ} {entries before now : List ℕ} {k : ℕ} → WroteIf (refused n p) entries before now k
 wrote-not = record { wrote = λ h. absurd (not-refused h) }
@@ -169,11 +174,13 @@ module _ (f : List ℕ) {i : Index} (ready : Ready f i) where
   init-inside e s = rw (e, s) (task-wf f (reads f ready) .init)
 
   -- All is prepared to write expansions.
-  pub prepared : {sizes first-step first-edge : List ℕ} → sizes ≡ t .sizes → length first-edge ≡ maxNodes → Numbered (actionsOf f ready sizes) (i .firsts) first-step first-edge
-      → Prepared f sizes (take (i .actions) (i .starts)) (i .firsts) (i .nodes) first-step first-edge
-  prepared {sizes} e long n =
+  pub prepared : {sizes incoming first-step first-edge : List ℕ} → sizes ≡ t .sizes → ((a : ℕ) → a < length (take (i .actions) (i .starts)) → getD incoming a 0 ≡ incomingPlace f (getD (take (i .actions) (i .starts)) a 0))
+      → length first-edge ≡ maxNodes → Numbered (actionsOf f ready sizes) (i .firsts) first-step first-edge
+      → Prepared f sizes (take (i .actions) (i .starts)) incoming (i .firsts) (i .nodes) first-step first-edge
+  prepared {sizes} e noted long n =
       let same = actions-are f ready e in
       record {
+        weighs = λ a l. weighs f (actions-stood f ready e a l) (noted a l);
         variables = omega (arith, ap length e, task-limits f (reads f ready) .variables);
         well-formed = λ {a} {x} h. subst (λ (ds : List ℕ). WfAction ds x) (sym e) (task-wf f (reads f ready) .actions (subst (λ (xs : List Action). At xs a x) same h));
         numbered = n;

@@ -13,6 +13,7 @@ use Rattle.taskfile.specs.Task.{Node, Action, Task, maxList, maxVariables, WfNo
 use Rattle.taskfile.specs.TaskFile.{readTask}
 use Rattle.probe.specs.Probe.{probeSum, maxList as maxProbeList}
 use Rattle.compilation.specs.Compile.{probeOf, edgeCount, stepCount}
+use Rattle.compile.specs.InPlace.{Weighs}
 use Rattle.plans.specs.Carry.{firstStep, pathSteps, startedBy}
 use Rattle.facts.specs.Lists.{total, At}
 use Rattle.taskfile.specs.InPlace.{nodesBefore}
@@ -101,8 +102,9 @@ expansion f list = elim (expanded f list) [ accepted c ↦ c .0 | refused n p �
 pub record WroteIf (answer : Read ℕ) (entries before now : List ℕ) (n : ℕ) : Type 0 where
   pub wrote : {c : ℕ} → answer ≡ accepted c → Wrote entries before now n
 
--- what the probe list of a list of actions is written from: each action is well-formed, the steps have their numbers, and there are at most 24 variables and 576 steps
-pub record Prepared (f sizes actions firsts nodes first-step first-edge : List ℕ) : Type 0 where
+-- what the probe list of a list of actions is written from: each action is well-formed and its incoming weight is noted, the steps have their numbers, and there are at most 24 variables and 576 steps
+pub record Prepared (f sizes actions incoming firsts nodes first-step first-edge : List ℕ) : Type 0 where
+  pub weighs : (a : ℕ) → a < length actions → Weighs f (getD actions a 0) (getD incoming a 0)
   pub variables : length sizes ≤ maxVariables
   pub well-formed : {a : ℕ} {x : Action} → At (actionsIn f sizes actions firsts nodes 0 (length actions)) a x → WfAction sizes x
   pub numbered : Numbered (actionsIn f sizes actions firsts nodes 0 (length actions)) firsts first-step first-edge

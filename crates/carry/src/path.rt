@@ -3,9 +3,9 @@ use facts::Applied;
 use facts::Held;
 use facts::number::byte_at;
 use facts::number::offset_at;
+use facts::number::word_at;
 use facts::partial::apply_at;
 use facts::partial::held_at;
-use taskfile::walk::diagram_past;
 use taskfile::walk::edge_for;
 ghost use mathlib.Core.Path.{_≡_};
 ghost use Prim.Native.Nat.{_*_, _≤_};
@@ -15,6 +15,7 @@ ghost use Rattle.facts.specs.Write.{Wrote};
 ghost use Rattle.taskfile.specs.Task.{maxWeight};
 ghost use Rattle.taskfile.specs.WalkInPlace.{maxPassed, maxWalk, performAt, wayFrom};
 ghost use Rattle.taskfile.specs.PartsInPlace.{nodesIn, actionIn};
+ghost use Rattle.compile.specs.InPlace.{Weighs};
 ghost use Rattle.plans.specs.Carry.{actionList};
 ghost use Rattle.carry.specs.Answers.{putEntries};
 ghost use Rattle.carry.specs.InPlace.{Writable, entriesOf};
@@ -31,12 +32,13 @@ pub struct Path {
     pub written: usize,
 }
 
-// Does the action at an offset, whose own nodes begin at the offsets `nodes`, and writes its step numbers: its start is step `first`, the next action's would be `next`, and `first_edge` has the number
+// Does the action at an offset, whose incoming weight is at `incoming` and whose own nodes begin at the offsets `nodes`, and writes its step numbers: its start is step `first`, the next action's would be `next`, and `first_edge` has the number
 // of each node's first edge. Where its precondition does not hold nothing is written.
 pub fn put_action(
     file: &[u8],
     sizes: &[u8],
     at: usize,
+    incoming: usize,
     nodes: &[usize],
     first_edge: &[usize],
     first: usize,
@@ -44,6 +46,7 @@ pub fn put_action(
     state: &mut [u8],
     out: &mut [u16],
 ) -> Put
+    requires { ⌜ Weighs (now file) at incoming ⌝ }
     requires { ⌜ Writable (now sizes) (actionIn (now file) (now sizes) at (now nodes) .nodes) (now «first_edge») first next (now state) (length (now out)) ⌝ }
     ensures { λ r. ⌜ appliedMove (r .answer) (now (state .exit)) ≡ performAt (now (file .entry)) at (now (nodes .entry)) (now (state .entry)) ⌝ }
     ensures { λ r. ⌜ CostMost maxWalk (r .answer) ⌝ }
@@ -55,13 +58,13 @@ pub fn put_action(
             written: 0,
         },
         Held::Ends(effect) => {
-            let diagram = diagram_past(file, effect);
-            let incoming = diagram.incoming;
+            let weight = word_at(file, incoming);
+            let count = byte_at(file, incoming + 2) as usize;
             let path = put_path(
                 file,
                 sizes,
                 nodes,
-                diagram.count,
+                count,
                 first_edge,
                 first,
                 next,
@@ -70,7 +73,7 @@ pub fn put_action(
             );
             apply_at(file, effect, state);
             Put {
-                answer: Applied::Next(incoming + path.cost),
+                answer: Applied::Next(weight + path.cost),
                 written: path.written,
             }
         }

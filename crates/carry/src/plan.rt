@@ -1,6 +1,7 @@
 // A list of actions run, and its probe list written in the same walk.
 use crate::path::put_action;
 use crate::starts::number_steps;
+use compile::length::note_incoming;
 use facts::Applied;
 use facts::Ran;
 use facts::Refusal;
@@ -54,12 +55,15 @@ pub fn put_plan(file: &[u8], task: Task, list: &[u16], out: &mut [u16]) -> Liste
         &mut first_step,
         &mut first_edge,
     );
+    let mut incoming_at = [0; 32];
+    note_incoming(file, action_at, &mut incoming_at);
     let mut state = initial(file, variables);
     put_list(
         file,
         sizes,
         1 + 2 * variables,
         action_at,
+        &incoming_at,
         &firsts,
         &nodes,
         &first_step,
@@ -88,6 +92,7 @@ fn put_list(
     sizes: &[u8],
     goal: usize,
     action_at: &[usize],
+    incoming_at: &[usize],
     first_node: &[usize],
     node_at: &[usize],
     first_step: &[usize],
@@ -96,7 +101,7 @@ fn put_list(
     state: &mut [u8],
     out: &mut [u16],
 ) -> Listed
-    requires { ⌜ Prepared (now file) (now sizes) (now «action_at») (now «first_node») (now «node_at») (now «first_step») (now «first_edge») × Inside (now sizes) (now state) ⌝ }
+    requires { ⌜ Prepared (now file) (now sizes) (now «action_at») (now «incoming_at») (now «first_node») (now «node_at») (now «first_step») (now «first_edge») × Inside (now sizes) (now state) ⌝ }
     requires { ⌜ (length (now list) ≤ maxList) × (maxEntries * length (now list) ≤ length (now out)) ⌝ }
     ensures { λ r. ⌜ ranAnswer (r .answer) ≡ runList (length (now («action_at» .entry))) (moveAt (now (file .entry)) (now («action_at» .entry)) (now («first_node» .entry)) (now («node_at» .entry))) (partialAt (now (file .entry)) goal) (now (list .entry)) (now (state .entry)) ⌝ }
     ensures { λ r. ⌜ WroteIf (ranAnswer (r .answer)) (expandFrom (actionsIn (now (file .entry)) (now (sizes .entry)) (now («action_at» .entry)) (now («first_node» .entry)) (now («node_at» .entry)) 0 (length (now («action_at» .entry)))) (now (list .entry)) (now (state .entry))) (now (out .entry)) (now (out .exit)) (r .written) ⌝ }
@@ -117,6 +122,7 @@ fn put_list(
             file,
             sizes,
             action_at[number],
+            offset_at(incoming_at, number),
             &node_at[first..],
             &first_edge[first..],
             offset_at(first_step, number),

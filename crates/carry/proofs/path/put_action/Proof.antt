@@ -9,10 +9,12 @@ use Rattle.facts.specs.Answers.{heldAnswer, EndsAlike}
 use Rattle.facts.specs.Partial.{pastPartial, Alike}
 use Rattle.facts.specs.Run.{next as went}
 use Rattle.facts.specs.Write.{Wrote}
+use Rattle.facts.specs.Fields.{wordAt}
 use Rattle.taskfile.specs.WalkInPlace.{nodeCount}
-use Rattle.taskfile.specs.WalkInPlaceLaws.{count-behind, cost-is}
+use Rattle.taskfile.specs.WalkInPlaceLaws.{weight-behind, count-behind, cost-is}
 use Rattle.taskfile.specs.MoveInPlaceLaws.{performs, performs-not}
 use Rattle.taskfile.specs.PartsInPlace.{nodesIn}
+use Rattle.compile.specs.ExtentLaws.{count-in}
 use Rattle.carry.specs.InPlace.{entriesOf, Writable}
 use Rattle.carry.specs.ActionLaws.{wrote-nothing}
 use borrow.Author.Needs.{needs}
@@ -24,15 +26,15 @@ behind : (c : tie.After-effect) → let a = c .before .before .before .before .b
 behind c = let a = c .before .before .before .before .before .before .before .before .before .before .args in subst (EndsAlike (now (a .file)) (pastPartial (now (a .file)) (a .at))) (c .effect .given .1) (c .before .before .held-at .ensures .1)
 
 -- the number of nodes
-count-is : (c : tie.After-diagram-past) → let a = c .before .before .before .before .before .before .before .before .before .before .before .before .args in c .diagram-past .result .count ≡ nodeCount (now (a .file)) (a .at)
-count-is c = let a = c .before .before .before .before .before .before .before .before .before .before .before .before .args in c .diagram-past .ensures .1 ∙ count-behind (now (a .file)) (a .at) (behind (c .before .before))
+count-is : (c : tie.After-byte-at) → let a = c .before .before .before .before .before .before .before .before .before .before .before .before .before .args in c .byte-at .result ≡ nodeCount (now (a .file)) (a .at)
+count-is c = let s = c .before .before .before .before .before .before .before .before .before .before .before .before .before in count-in (now (s .args .file)) (s .args .at) (s .pre .0 .place) (c .byte-at .ensures)
 
 put-path-requires : tie.Need-put-path-requires
 put-path-requires c κs =
-    let s = c .before .before .before .before .before .before .before .before .before .before .before .before .before .before in
+    let s = c .before .before .before .before .before .before .before .before .before .before .before .before .before .before .before in
     let a = s .args in (
-      c .before .before .diagram-past .ensures .3,
-      subst (λ (n : ℕ). Writable (now (a .sizes)) (nodesIn (now (a .file)) (now (a .sizes)) (now (a .nodes)) 0 n) (now (a .first-edge)) (a .first) (a .next) (now (a .state)) (length (now (a .out)))) (sym (count-is (c .before .before))) (s .pre),
+      omega (arith, count-is (c .before .before), s .pre .0 .few),
+      subst (λ (n : ℕ). Writable (now (a .sizes)) (nodesIn (now (a .file)) (now (a .sizes)) (now (a .nodes)) 0 n) (now (a .first-edge)) (a .first) (a .next) (now (a .state)) (length (now (a .out)))) (sym (count-is (c .before .before))) (s .pre .1),
     )
 
 returns : tie.Need-returns
@@ -43,14 +45,17 @@ returns c =
 
 returns-2 : tie.Need-returns-2
 returns-2 c =
-    let a = c .before .before .before .before .before .before .before .before .before .before .before .before .before .before .before .before .before .before .before .before .before .before .args in
+    let s = c .before .before .before .before .before .before .before .before .before .before .before .before .before .before .before .before .before .before .before .before .before .before .before in
+    let a = s .args in
     let f = now (a .file) in
-    let so = sym (ap heldAnswer (c .before .before .before .before .before .before .before .before .before .before .before .before .effect .given .1)) ∙ c .before .before .before .before .before .before .before .before .before .before .before .before .before .before .held-at .ensures .0 in
-    let diagram = c .before .before .before .before .before .before .before .before .before .before .diagram-past in
+    let so = sym (ap heldAnswer (c .before .before .before .before .before .before .before .before .before .before .before .before .before .effect .given .1)) ∙ c .before .before .before .before .before .before .before .before .before .before .before .before .before .before .before .held-at .ensures .0 in
+    let there = behind (c .before .before .before .before .before .before .before .before .before .before .before .before .before) in
+    let weight = c .before .before .before .before .before .before .before .before .before .before .before .word-at in
     let path = c .before .before .before .before .before .before .before .put-path in
-    let paid = cost-is f (c .before .before .before .before .before .before .before .before .before .before .before .before .effect .given .0 .0) (now (a .nodes)) (now (a .state)) (diagram .ensures .0) (diagram .ensures .1) (path .ensures .1 .0) in (
-      ap (λ (s : List ℕ). went s (diagram .result .incoming + path .result .cost)) (c .before .before .before .apply-at .ensures .0) ∙ performs f (a .at) (now (a .nodes)) (now (a .state)) (λ w. w .cost) (behind (c .before .before .before .before .before .before .before .before .before .before .before .before)) paid so,
-      (omega (arith, diagram .ensures .2, path .ensures .1 .1), subst (λ (n : ℕ). Wrote (entriesOf (a .first) (nodesIn f (now (a .sizes)) (now (a .nodes)) 0 n) (now (a .state))) (now (a .out)) (path .last .1 .1 .1 .1 .1 .1 .1 .1 .0) (path .result .written)) (count-is (c .before .before .before .before .before .before .before .before .before .before)) (path .ensures .0)),
+    let weight-is = weight .ensures .0 ∙ ap (wordAt f) (s .pre .0 .place) ∙ sym (weight-behind f (a .at) there) in
+    let paid = cost-is f (c .before .before .before .before .before .before .before .before .before .before .before .before .before .effect .given .0 .0) (now (a .nodes)) (now (a .state)) weight-is (count-is (c .before .before .before .before .before .before .before .before .before .before) ∙ sym (count-behind f (a .at) there)) (path .ensures .1 .0) in (
+      ap (λ (s : List ℕ). went s (weight .result + path .result .cost)) (c .before .before .before .apply-at .ensures .0) ∙ performs f (a .at) (now (a .nodes)) (now (a .state)) (λ w. w .cost) there paid so,
+      (omega (arith, weight .ensures .1, path .ensures .1 .1), subst (λ (n : ℕ). Wrote (entriesOf (a .first) (nodesIn f (now (a .sizes)) (now (a .nodes)) 0 n) (now (a .state))) (now (a .out)) (path .last .1 .1 .1 .1 .1 .1 .1 .1 .0) (path .result .written)) (count-is (c .before .before .before .before .before .before .before .before .before .before)) (path .ensures .0)),
     )
 
 pub put-action-spec : {M : Type 1} → statement M
@@ -61,9 +66,12 @@ put-action-spec =
     (λ c. search needs)
     (λ c. search needs)
     (λ c κs. search needs)
+    (λ c. omega (arith, c .before .before .before .before .before .before .before .before .before .before .before .before .pre .0 .fits))
+    (λ c κs. search needs)
+    (λ c. search needs)
     put-path-requires
     (λ c κs. search needs)
-    (λ c. omega (arith, c .before .before .before .before .before .before .before .before .before .before .diagram-past .ensures .2, c .before .before .before .before .before .before .before .put-path .ensures .1 .1))
+    (λ c. omega (arith, c .before .before .before .before .before .before .before .before .before .before .before .word-at .ensures .1, c .before .before .before .before .before .before .before .put-path .ensures .1 .1))
     (λ c. search needs)
     returns
     (λ c. search needs)
