@@ -1,5 +1,8 @@
 -- What the answers of the code mean.
 use Prim.Native.Nat.{ℕ}
+use mathlib.Core.List.{List, []}
+use Rattle.facts.specs.declared.Applied.{Applied}
+use Rattle.facts.specs.declared.Applied.the-variants.{Next as Moved, Blocked}
 use Rattle.facts.specs.Refusal.{number, place}
 use Rattle.facts.specs.Read.{Read, accepted, refused}
 use Rattle.carry.specs.declared.Carried.{Carried}
@@ -16,3 +19,8 @@ carriedAnswer (NotCarried why) = refused (number why) (place why)
 abbrev pub startsAnswer : Starts → Read ℕ
 startsAnswer (Count n) = accepted n
 startsAnswer (TooMany i) = refused 8 i
+
+-- the entries of an action that applied, and none where it did not
+abbrev pub putEntries : Applied → List ℕ → List ℕ
+putEntries (Moved cost) entries = entries
+putEntries Blocked entries = []

@@ -1,167 +1,144 @@
--- Laws of expanding as the code does it: the numbers of the starts, the actions of a list one after the other, and the ways in which the operation can go.
+-- Laws of expanding as the code does it: the actions of a list one after the other, and the ways in which the operation can go.
 use mathlib.Core.Path.{_≡_, refl, sym, ap, subst, _∙_}
-use Prim.Native.Nat.{ℕ, zero, suc, _+_, _*_, _-_, _≤_, _<_}
+use mathlib.Core.Bool.{Bool, true, false}
+use mathlib.Core.Option.{Option, none, some}
+use Prim.Native.Nat.{ℕ, suc, _+_, _*_, _-_, _≤_, _<_}
 use native.Mathlib.Numerals.{add-one}
-use native.Mathlib.Decide.{ℕ-discrete}
 use native.Mathlib.Omega.{arith}
 use mathlib.Core.List.{List, [], _∷_}
-use lib.ListN.{length, getD, take, drop, set, length-set, drop-of-length-le}
-use lib.Seq.{drop-cons, getD-set-same, getD-set-other}
+use lib.ListN.{length, getD, getElem?, take, drop, set, length-append, drop-of-length-le}
+use lib.Seq.{drop-cons}
 use borrow.Rule.Slice.PartMut.{putMid}
-use Rattle.facts.specs.Lists.{total, At, here, there}
-use Rattle.facts.specs.ListLaws.{look, at-length}
+use Rattle.facts.specs.Lists.{total, At}
+use Rattle.facts.specs.ListLaws.{look, found, at-length}
 use Rattle.facts.specs.Read.{Read, accepted, refused, _>>=_}
-use Rattle.facts.specs.ReadLaws.{through, not-made, bind-assoc}
-use Rattle.facts.specs.Partial.{Partial, apply, partialBytes, partialAt, pastPartial}
+use Rattle.facts.specs.ReadLaws.{not-refused, through, not-made, bind-assoc}
+use Rattle.facts.specs.Partial.{Partial, holds, apply, partialAt, pastPartial}
 use Rattle.facts.specs.PartialLaws.{apply-inside}
-use Rattle.facts.specs.InPlaceLaws.{past-is}
 use Rattle.facts.specs.State.{Inside}
-use Rattle.facts.specs.Write.{Wrote}
-use Rattle.facts.specs.Run.{runFrom, atMost, Reaches, steps}
+use Rattle.facts.specs.Write.{over, Wrote}
+use Rattle.facts.specs.Run.{next as went, attempt, atMost}
+use Rattle.facts.specs.RunLaws.{attempt-next, attempt-blocked, not-blocked, list-long}
 use Rattle.taskfile.specs.declared.Task.{Task as Index}
-use Rattle.taskfile.specs.Task.{Action, Task, maxList, actionMove, actionPasses, taskSum, Plan, WfAction}
+use Rattle.taskfile.specs.Task.{Action, Task, Walk, maxList, maxVariables, maxNodes, taskSum, Plan, WfAction}
 use Rattle.taskfile.specs.TaskFile.{readTask, checkTask, runTask}
 use Rattle.taskfile.specs.TaskReadLaws.{task-wf, task-limits}
-use Rattle.taskfile.specs.TaskLaws.{move-known, task-plan}
+use Rattle.taskfile.specs.TaskLaws.{task-plan}
+use Rattle.taskfile.specs.WalkLaws.{passed-most}
 use Rattle.taskfile.specs.Index.{Ready}
-use Rattle.taskfile.specs.WalkInPlace.{passesAt, runList}
-use Rattle.taskfile.specs.MoveInPlaceLaws.{passed-in-place}
-use Rattle.taskfile.specs.AnswerLaws.{there as task-there, starts, starts-count}
-use Rattle.probe.specs.Probe.{maxList as maxProbeList}
-use Rattle.compilation.specs.Compile.{edgeCount, stepCount}
-use Rattle.compilation.specs.StepLaws.{steps-length, steps-most}
-use Rattle.taskfile.specs.PartsInPlace.{actionIn, actionsIn, Stood}
-use Rattle.compile.specs.PutLaws.{Cut, Going, going-more}
-use Rattle.taskfile.specs.PartsInPlaceLaws.{reads, located, actions-stood, actions-in-place}
-use Rattle.plans.specs.Carry.{firstStep, actionList, expandFrom, expand}
+use Rattle.taskfile.specs.WalkInPlace.{incomingPlace, walkAt, performBy, performAt}
+use Rattle.taskfile.specs.AnswerLaws.{there as task-there}
+use Rattle.compilation.specs.Compile.{stepCount}
+use Rattle.taskfile.specs.PartsInPlace.{actionIn, actionsIn}
+use Rattle.taskfile.specs.PartsInPlaceLaws.{reads, actions-stood, actions-in-place}
+use Rattle.compile.specs.ExtentLaws.{weighs}
+use Rattle.compile.specs.PutLaws.{Cut, Going, going-more, going-end}
+use Rattle.plans.specs.Carry.{actionList, expandFrom, expand}
 use Rattle.plans.specs.ListLaws.{total-take}
-use Rattle.plans.specs.LengthLaws.{expand-passed, expand-fits}
+use Rattle.plans.specs.LengthLaws.{expand-more, expand-limit}
 use Rattle.carry.specs.CarryFile.{expanded}
-use Rattle.carry.specs.InPlace.{Numbered, passedTask, Planned, expansion, Prepared}
-use Rattle.carry.specs.SameSumLaws.{expanded-plan, fits-inv}
+use Rattle.carry.specs.InPlace.{Edges, Numbered, Writable, maxEntries, expansion, WroteIf, Prepared}
+use Rattle.carry.specs.NumberLaws.{actions-at, total-next, actionsOf, actions-are, steps-few}
+use Rattle.carry.specs.AnswerLaws.{entry-room, entry-more}
+use Rattle.carry.specs.SameSumLaws.{over-front, expanded-plan, fits-inv}
 
--- ---- actions in place, by number
+-- The state after what applied.
+attempt-state : (pre eff : Partial) (cost : ℕ) (s : List ℕ) {e : List ℕ} {c : ℕ} → attempt pre eff cost s ≡ went e c → e ≡ apply eff s
+attempt-state pre eff cost s {e} {c} h = go (holds pre s) refl
+  where
+    go : (b : Bool) → holds pre s ≡ b → e ≡ apply eff s
+    go true g = cc (attempt-next pre eff cost s g, h)
+    go false g = absurd (not-blocked (sym (attempt-blocked pre eff cost s g) ∙ h))
 
-module _ (f sizes actions firsts nodes : List ℕ) where
-  -- As many actions as are asked for.
-  pub actions-long : (a count : ℕ) → length (actionsIn f sizes actions firsts nodes a count) ≡ count
-  actions-long a zero = refl
-  actions-long a (suc count) = ap suc (actions-long (suc a) count)
+-- ---- how long an expansion may be
 
-  -- The action of each number, from number a on.
-  actions-from : (a count j k : ℕ) → j < count → k ≡ a + j → At (actionsIn f sizes actions firsts nodes a count) j (actionIn f sizes (getD actions k 0) (drop (getD firsts k 0) nodes))
-  actions-from a zero j k h e = absurd (omega arith)
-  actions-from a (suc count) zero k h e = let same : a ≡ k = omega arith in rw same here
-  actions-from a (suc count) (suc j) k h e = there (actions-from (suc a) count j k (omega arith) (omega arith))
+module _ {sizes : List ℕ} {actions : List Action} (wf : (a : ℕ) (x : Action) → At actions a x → WfAction sizes x) (few : length sizes ≤ maxVariables) where
+  -- Whatever its entries are, a list comes to at most 26 steps each: a walk passes each variable at most once.
+  abbrev Bounded : List ℕ → Type 0
+  Bounded list = (s : List ℕ) → Inside sizes s → length (expandFrom actions list s) ≤ maxEntries * length list
 
-  -- The same from number 0 on.
-  pub actions-at : (a count : ℕ) → a < count → At (actionsIn f sizes actions firsts nodes 0 count) a (actionIn f sizes (getD actions a 0) (drop (getD firsts a 0) nodes))
-  actions-at a count h = actions-from 0 count a a h (omega arith)
+  -- One entry more: it has an action or not.
+  bounded-entry : (a : ℕ) (list : List ℕ) → Bounded list → (o : Option Action) → getElem? actions a ≡ o → Bounded (a ∷ list)
+  bounded-entry a list on none e s inside = rw (e, expandFrom) (omega arith)
+  bounded-entry a list on (some x) e s inside =
+      let h = found actions a e in
+      omega (arith, expand-more actions list s h, passed-most (wf a x h) s inside, on (apply (x .eff) s) (apply-inside (x .eff) sizes s (wf a x h .eff .values) inside), few)
 
--- ---- the numbers of the starts
-
--- The start of the next action comes after all steps of this one.
-first-next : {actions : List Action} {a : ℕ} {x : Action} → At actions a x → firstStep actions (suc a) ≡ firstStep actions a + stepCount x
-first-next here = omega arith
-first-next (there h) = omega (arith, first-next h)
-
--- the starts before that of action a are noted in `now`, and `next` is the number of a's
-pub record Numbering (actions : List Action) (before now : List ℕ) (next a : ℕ) : Type 0 where
-  pub within : a ≤ length actions
-  pub numbers : (b : ℕ) → b < a → getD now b 0 ≡ firstStep actions b
-  pub next-is : next ≡ firstStep actions a
-  pub few : next ≤ 65027 * a
-  pub same : length now ≡ length before
-
--- At first none are.
-pub numbering-start : (actions : List Action) (out : List ℕ) → Numbering actions out out 0 0
-numbering-start actions out = record { within = omega arith; numbers = λ b h. absurd (omega arith); next-is = refl; few = omega arith; same = refl }
-
--- Then one more is.
-pub numbering-next : {actions : List Action} {before now : List ℕ} {next a edges : ℕ} {x : Action} → Numbering actions before now next a → At actions a x → a < length before
-    → edges ≡ total edgeCount (x .nodes) → edges ≤ 65025 → Numbering actions before (set now a next) (next + (2 + edges)) (a + 1)
-numbering-next {actions} {before} {now} {next} {a} {edges} n h room e few = record {
-  within = omega (arith, at-length h);
-  numbers = λ b l.
-      elim (ℕ-discrete b a) [
-        | yes same ↦ rw same (getD-set-same now a next 0 (omega (arith, n .same)) ∙ n .next-is)
-        | no other ↦ getD-set-other now a b next 0 other ∙ n .numbers b (omega arith)
-      ];
-  next-is = rw (add-one a) (omega (arith, n .next-is, e, first-next h));
-  few = omega (arith, n .few);
-  same = length-set now a next ∙ n .same;
-}
-
--- At last all are.
-pub numbering-end : {actions : List Action} {before now : List ℕ} {next a : ℕ} → Numbering actions before now next a → length actions ≤ a → Numbered actions now
-numbering-end n l = record { numbers = λ b h. n .numbers b (omega arith) }
-
--- ---- the run of a list
-
-module _ (f : List ℕ) {i : Index} (ready : Ready f i) where
-  -- The nodes that a list's run passes are those of the run by the offsets of an accepted file.
-  pub passed-is : (list : List ℕ)
-      → passedTask f list
-      ≡ runList (length (take (i .actions) (i .starts))) (passesAt f (take (i .actions) (i .starts)) (i .firsts) (i .nodes)) (partialAt f (1 + 2 * i .variables)) list (take (i .variables) (drop (1 + i .variables) f))
-  unfolding passedTask runList
-  passed-is list =
-      let begins = starts f ready in
-      rw (reads f ready)
-      (ap (λ (passed : Read ℕ). _>>=_ (atMost maxList list) (λ u. passed)) (sym (passed-in-place f (reads f ready) (located f ready) (starts-count f ready) (1 + 2 * i .variables) list (take (i .variables) (drop (1 + i .variables) f)) (begins .init) (begins .goal))))
+  pub expand-bounded : (list : List ℕ) → Bounded list
+  expand-bounded [] s inside = omega arith
+  expand-bounded (a ∷ list) s inside = bounded-entry a list (expand-bounded list) (getElem? actions a) refl s inside
 
 -- ---- the actions of a list, one after the other
 
--- The action of entry i of a list stands at an offset, with its own nodes and with the number `first` of its start: its entries come next in the state s.
-pub record Entry (f sizes actions firsts nodes list s : List ℕ) (i at : ℕ) (own : List ℕ) (first : ℕ) : Type 0 where
-  pub stood : Stood f sizes at own
+-- The action of entry i of a list stands at an offset, with its own nodes and the first edges of these, with the number `first` of its start and the number `next` after its end: its
+-- entries come next in the state s.
+pub record Entry (f sizes actions firsts nodes list s : List ℕ) (i at : ℕ) (own row : List ℕ) (first next : ℕ) : Type 0 where
   pub well-formed : WfAction sizes (actionIn f sizes at own)
-  pub few : first + stepCount (actionIn f sizes at own) ≤ 576
+  pub edges : Edges (actionIn f sizes at own .nodes) (1 + first) row
+  pub next-is : next ≡ first + stepCount (actionIn f sizes at own)
+  pub few : next ≤ 576
   pub cut : Cut (expandFrom (actionsIn f sizes actions firsts nodes 0 (length actions)) (drop i list) s) (actionList first (actionIn f sizes at own) s)
       (expandFrom (actionsIn f sizes actions firsts nodes 0 (length actions)) (drop (i + 1) list) (apply (partialAt f (pastPartial f at)) s))
 
--- Each entry of a list has its action.
-pub entry-there : {f sizes actions firsts nodes first-step list : List ℕ} (p : Prepared f sizes actions firsts nodes first-step list) (s : List ℕ) {i at : ℕ} {own : List ℕ} {first : ℕ} → i < length list
-    → at ≡ getD actions (getD list i 0) 0 → own ≡ drop (getD firsts (getD list i 0) 0) nodes → first ≡ getD first-step (getD list i 0) 0 → Entry f sizes actions firsts nodes list s i at own first
-entry-there {f} {sizes} {actions} {firsts} {nodes} {first-step} {list} p s {i} l h o n =
-    let a = getD list i 0 in
-    let known = p .known i l in
-    let element = actions-at f sizes actions firsts nodes a (length actions) known in
-    let number = p .starts .numbers a (at-length element) in
-    rw (h, o, n ∙ number)
-    (record {
-      stood = p .stood a known;
-      well-formed = p .well-formed a known;
-      few = omega (arith, p .few, total-take stepCount element);
-      cut = record { cut = rw (drop-cons list i 0 l, look element, expandFrom, add-one i) };
-    })
+module _ {f sizes actions incoming firsts nodes first-step first-edge : List ℕ} (p : Prepared f sizes actions incoming firsts nodes first-step first-edge) where
+  abbrev actionsHere : List Action
+  actionsHere = actionsIn f sizes actions firsts nodes 0 (length actions)
 
-module _ {f sizes actions firsts nodes list s : List ℕ} {i at : ℕ} {own : List ℕ} {first : ℕ} (e : Entry f sizes actions firsts nodes list s i at own first) where
-  module _ {after : List ℕ} {n : ℕ} (h : after ≡ apply (partialAt f (at + n)) s) (g : n ≡ partialBytes (partialAt f at)) where
-    -- The effect stands behind the precondition.
-    after-is : after ≡ apply (partialAt f (pastPartial f at)) s
-    after-is = h ∙ ap (λ (k : ℕ). apply (partialAt f k) s) (past-is f at g)
+  -- There is room for all entries.
+  pub list-room : (list s : List ℕ) → Inside sizes s → {room : ℕ} → maxEntries * length list ≤ room → length (expandFrom actionsHere list s) ≤ room
+  list-room list s inside h = omega (arith, expand-bounded (λ a x h. p .well-formed h) (p .variables) list s inside)
 
+  -- Each entry that is the number of an action has it.
+  pub entry-there : {list : List ℕ} (s : List ℕ) {i at : ℕ} {own row : List ℕ} {first next : ℕ} → i < length list → getD list i 0 < length actions
+      → at ≡ getD actions (getD list i 0) 0 → own ≡ drop (getD firsts (getD list i 0) 0) nodes → row ≡ drop (getD firsts (getD list i 0) 0) first-edge
+      → first ≡ getD first-step (getD list i 0) 0 → next ≡ getD first-step (getD list i 0 + 1) 0 → Entry f sizes actions firsts nodes list s i at own row first next
+  entry-there {list} s {i} l known h o r n m =
+      let a = getD list i 0 in
+      let element = actions-at f sizes actions firsts nodes a (length actions) known in
+      let after = m ∙ ap (λ (k : ℕ). getD first-step k 0) (add-one a) ∙ p .numbered .numbers (suc a) (omega (arith, at-length element)) in
+      rw (h, o, r, n ∙ p .numbered .numbers a (omega (arith, at-length element)), after)
+      (record {
+        well-formed = p .well-formed element;
+        edges = p .numbered .edges element;
+        next-is = total-next stepCount element;
+        few = omega (arith, p .few, total-next stepCount element, total-take stepCount element);
+        cut = record { cut = rw (drop-cons list i 0 l, look element, expandFrom, add-one i) };
+      })
+
+-- An action that applied set its effect.
+applied-state : (f : List ℕ) (at : ℕ) (own s : List ℕ) (measure : Walk → ℕ) {after : List ℕ} {c : ℕ} → went after c ≡ performBy measure f at own s → after ≡ apply (partialAt f (pastPartial f at)) s
+unfolding performBy
+applied-state f at own s measure {after} {c} h = attempt-state (partialAt f at) (partialAt f (pastPartial f at)) (measure (walkAt f at own s)) s (sym h)
+
+module _ {f sizes actions firsts nodes list s : List ℕ} {i at : ℕ} {own row : List ℕ} {first next : ℕ} (e : Entry f sizes actions firsts nodes list s i at own row first next) where
+  -- Its entries can be written.
+  pub entry-writable : Inside sizes s → {room : ℕ} → length (actionList first (actionIn f sizes at own) s) ≤ room → Writable sizes (actionIn f sizes at own .nodes) row first next s room
+  entry-writable inside fits = record { well-formed = e .well-formed .nodes; inside = inside; edges = e .edges; next-is = e .next-is; few = e .few; fits = fits }
+
+  module _ {after : List ℕ} {c : ℕ} (h : went after c ≡ performAt f at own s) where
     -- The state after it is inside the domains.
     pub entry-inside : Inside sizes s → Inside sizes after
-    entry-inside inside = rw after-is (apply-inside (partialAt f (pastPartial f at)) sizes s (e .well-formed .eff .values) inside)
+    entry-inside inside = rw (applied-state f at own s (λ w. w .cost) h) (apply-inside (partialAt f (pastPartial f at)) sizes s (e .well-formed .eff .values) inside)
 
     -- Once its entries are written, those of the later entries are left.
     pub entry-next : {whole before now last : List ℕ} {written k : ℕ} → Going whole (expandFrom (actionsIn f sizes actions firsts nodes 0 (length actions)) (drop i list) s) before now written → length whole ≤ length before
         → Wrote (actionList first (actionIn f sizes at own) s) (take (length now - written) (drop written now)) last k
         → Going whole (expandFrom (actionsIn f sizes actions firsts nodes 0 (length actions)) (drop (i + 1) list) after) before (putMid written (length now - written) now last) (written + k)
-    entry-next going fits w = rw after-is (going-more going fits (e .cut) w)
+    entry-next going fits w = rw (applied-state f at own s (λ w. w .cost) h) (going-more going fits (e .cut) w)
+
+-- No more is written than there is.
+pub going-few : {whole rest before now : List ℕ} {at : ℕ} → Going whole rest before now at → at ≤ length whole
+going-few {rest = rest} g = omega (arith, g .wrote .count, ap length (g .left) ∙ length-append (g .done) rest)
+
+-- A list that is refused has nothing to be written.
+pub wrote-not : {n p : ℕ} {entries before now : List ℕ} {k : ℕ} → WroteIf (refused n p) entries before now k
+wrote-not = record { wrote = λ h. absurd (not-refused h) }
 
 -- Past the last entry nothing is left.
 pub entries-none : (xs : List Action) (list s : List ℕ) {i : ℕ} → length list ≤ i → expandFrom xs (drop i list) s ≡ []
 entries-none xs list s l = rw (drop-of-length-le list l)
 
--- ---- a plan of an accepted file
-
--- A plan has only numbers of actions.
-reaches-known : (actions : List Action) (goal : Partial) (list s : List ℕ) (sum c : ℕ) → Reaches (actionMove actions) goal sum list s c → (k : ℕ) → k < length list → getD list k 0 < length actions
-reaches-known actions goal [] s sum c r k l = absurd (omega arith)
-reaches-known actions goal (a ∷ list) s sum c (steps {paid = paid} {s′ = s′} m r) zero l = move-known actions a s s′ paid m
-reaches-known actions goal (a ∷ list) s sum c (steps {paid = paid} {s′ = s′} m r) (suc k) l = reaches-known actions goal list s′ (sum + paid) c r k (omega arith)
+-- ---- a list that runs on an accepted file
 
 -- what is known of a list whose run answers the sum c
 record Ran-plan (t : Task) (list : List ℕ) (c : ℕ) : Type 0 where
@@ -183,59 +160,38 @@ module _ (f : List ℕ) {t : Task} (h : readTask f ≡ accepted t) (list : List 
   unfolding expansion
   expansion-is r = rw (expanded-plan f h (r .plan) (r .few), expansion)
 
-  -- The nodes that its run passes.
-  ran-passed : {passed : ℕ} → passedTask f list ≡ accepted passed → runFrom (length (t .actions)) (actionPasses (t .actions)) (t .goal) 0 0 list (t .init) ≡ accepted passed
-  unfolding passedTask
-  ran-passed p =
-      let a = through (readTask f) p in
-      let b = through (atMost maxList list) (a .then) in
-      let same : a .got ≡ t = cc (a .first, h) in
-      rw same at (b .then)
-
-  -- Two entries for each action, and one for each node passed; they are within the limit of probe lists.
-  pub needed-is : {c passed : ℕ} → runTask f list ≡ accepted c → passedTask f list ≡ accepted passed → (2 * length list + passed ≡ length (expansion f list)) × (length (expansion f list) ≤ maxProbeList)
-  needed-is r p =
-      let ran = ran-plan r in
-      let same = ap length (expansion-is ran) in (
-        sym (same ∙ expand-passed t (ran .plan) (ran-passed p)),
-        rw same (expand-fits t (task-wf f h) (ran .plan) (task-limits f h) (ran .few)),
-      )
+  -- It has at most 26 steps for each action.
+  pub expansion-few : {c : ℕ} → runTask f list ≡ accepted c → length (expansion f list) ≤ maxEntries * length list
+  expansion-few r = let ran = ran-plan r in rw (expansion-is ran) (expand-limit t (task-wf f h) (ran .plan) (task-limits f h))
 
 module _ (f : List ℕ) {i : Index} (ready : Ready f i) where
   -- the file's task
   abbrev t : Task
   t = task-there f ready .task
 
-  -- the actions in place, with these domain sizes
-  abbrev actionsOf : List ℕ → List Action
-  actionsOf sizes = actionsIn f sizes (take (i .actions) (i .starts)) (i .firsts) (i .nodes) 0 (length (take (i .actions) (i .starts)))
-
   -- The initial values are inside the domains.
   pub init-inside : {sizes state : List ℕ} → sizes ≡ t .sizes → state ≡ t .init → Inside sizes state
   init-inside e s = rw (e, s) (task-wf f (reads f ready) .init)
 
-  module _ {list : List ℕ} (p : Planned f list) where
-    -- All is prepared to write the expansion of a plan.
-    pub prepared : {sizes first-step : List ℕ} → sizes ≡ t .sizes → Numbered (actionsOf sizes) first-step → Prepared f sizes (take (i .actions) (i .starts)) (i .firsts) (i .nodes) first-step list
-    prepared {sizes} {first-step} e n =
-        let wf = task-wf f (reads f ready) in
-        let count = length (take (i .actions) (i .starts)) in
-        let same : actionsOf sizes ≡ t .actions = rw e (actions-in-place f ready) in
-        record {
-          stood = actions-stood f ready e;
-          well-formed = λ a l.
-              let x = actionIn f sizes (getD (take (i .actions) (i .starts)) a 0) (drop (getD (i .firsts) a 0) (i .nodes)) in
-              let element = subst (λ (xs : List Action). At xs a x) same (actions-at f sizes (take (i .actions) (i .starts)) (i .firsts) (i .nodes) a count l) in
-              subst (λ (ds : List ℕ). WfAction ds x) (sym e) (wf .actions element);
-          starts = n;
-          few = omega (arith, ap (total stepCount) same, steps-length t, steps-most t wf (task-limits f (reads f ready)));
-          known = λ k l. omega (arith, reaches-known (t .actions) (t .goal) list (t .init) 0 (p .sum) (ran-plan f (reads f ready) list (p .runs) .plan) k l, starts-count f ready);
-        }
+  -- All is prepared to write expansions.
+  pub prepared : {sizes incoming first-step first-edge : List ℕ} → sizes ≡ t .sizes → ((a : ℕ) → a < length (take (i .actions) (i .starts)) → getD incoming a 0 ≡ incomingPlace f (getD (take (i .actions) (i .starts)) a 0))
+      → length first-edge ≡ maxNodes → Numbered (actionsOf f ready sizes) (i .firsts) first-step first-edge
+      → Prepared f sizes (take (i .actions) (i .starts)) incoming (i .firsts) (i .nodes) first-step first-edge
+  prepared {sizes} e noted long n =
+      let same = actions-are f ready e in
+      record {
+        weighs = λ a l. weighs f (actions-stood f ready e a l) (noted a l);
+        variables = omega (arith, ap length e, task-limits f (reads f ready) .variables);
+        well-formed = λ {a} {x} h. subst (λ (ds : List ℕ). WfAction ds x) (sym e) (task-wf f (reads f ready) .actions (subst (λ (xs : List Action). At xs a x) same h));
+        numbered = n;
+        few = omega (arith, ap (total stepCount) same, steps-few f ready);
+        rows = long ∙ sym (ready .nodes-long);
+      }
 
-    -- What is written from the initial state on is the expansion.
-    pub entries-are : {sizes state : List ℕ} → sizes ≡ t .sizes → state ≡ t .init → expandFrom (actionsOf sizes) list state ≡ expansion f list
-    unfolding expand
-    entries-are e s = rw (e, s, actions-in-place f ready) (sym (expansion-is f (reads f ready) list (ran-plan f (reads f ready) list (p .runs))))
+  -- What is written from the initial state on is the expansion.
+  pub entries-are : (list : List ℕ) {sizes state : List ℕ} {c : ℕ} → runTask f list ≡ accepted c → sizes ≡ t .sizes → state ≡ t .init → expandFrom (actionsOf f ready sizes) list state ≡ expansion f list
+  unfolding expand
+  entries-are list r e s = rw (e, s, actions-in-place f ready) (sym (expansion-is f (reads f ready) list (ran-plan f (reads f ready) list r)))
 
 -- ---- the ways in which the operation can go
 
@@ -245,6 +201,11 @@ unfolding checkTask expanded
 expand-no-file f list h = rw (not-made (λ (t : Task). tt) (readTask f) h)
 
 module _ (f : List ℕ) {t : Task} (h : readTask f ≡ accepted t) (list : List ℕ) where
+  -- A list that is too long.
+  pub expand-long : maxList < length list → expanded f list ≡ refused 8 maxList
+  unfolding expanded
+  expand-long l = rw (h, list-long maxList list l)
+
   -- A refused list.
   pub expand-no-list : {n p : ℕ} → runTask f list ≡ refused n p → expanded f list ≡ refused n p
   unfolding runTask expanded
@@ -255,3 +216,24 @@ module _ (f : List ℕ) {t : Task} (h : readTask f ≡ accepted t) (list : List 
   -- A plan.
   pub expand-plan : {c : ℕ} → runTask f list ≡ accepted c → expanded f list ≡ accepted (expansion f list, c)
   expand-plan {c} r = let ran = ran-plan f h list r in expanded-plan f h (ran .plan) (ran .few) ∙ ap (λ (l : List ℕ). accepted (l, c)) (sym (expansion-is f h list ran))
+
+-- What was written stands at the front.
+pub front-is : {entries before now : List ℕ} {n : ℕ} → Wrote entries before now n → take n now ≡ entries
+front-is {entries} {before} w = rw (w .count, w .buffer) (over-front entries before)
+
+-- Written from there to another buffer, it is at the front of that.
+pub front-copied : {entries before now out last : List ℕ} {n : ℕ} → Wrote entries before now n → {k : ℕ} → Wrote (take n now) out last k → Wrote entries out last n
+front-copied {out = out} {last = last} w v = record { count = w .count; buffer = subst (λ (es : List ℕ). last ≡ over es out) (front-is w) (v .buffer) }
+
+-- One entry after the other is copied.
+pub copied-next : (entries : List ℕ) {out now : List ℕ} {i : ℕ} → Going entries (drop i entries) out now i → length entries ≤ length out → i < length entries
+    → (i < length now) × Going entries (drop (i + 1) entries) out (set now i (getD entries i 0)) (i + 1)
+copied-next entries {i = i} g fits l =
+    let cut : Cut (drop i entries) (getD entries i 0 ∷ []) (drop (i + 1) entries) = record { cut = rw (drop-cons entries i 0 l, add-one i) } in
+    (entry-room g fits cut, entry-more g fits cut)
+
+-- At last all are.
+pub copied-all : (entries : List ℕ) {out now : List ℕ} {i : ℕ} → Going entries (drop i entries) out now i → length entries ≤ length out → length entries ≤ i → i ≤ length entries → Wrote entries out now (length entries)
+copied-all entries {out} {now} {i} g fits l h =
+    let same : i ≡ length entries = omega arith in
+    subst (Wrote entries out now) same (going-end g fits (drop-of-length-le entries l))

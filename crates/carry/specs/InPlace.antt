@@ -1,24 +1,40 @@
 -- What code knows of a task's steps and of a list before it carries the list across, and the list of actions by what was noted.
 use mathlib.Core.Path.{_≡_}
-use Prim.Native.Nat.{ℕ, zero, suc, _<_, _≤_}
+use Prim.Native.Nat.{ℕ, zero, suc, _+_, _<_, _≤_}
 use mathlib.Core.List.{List, [], _∷_}
 use mathlib.Core.Option.{none, some}
 use lib.Dec.{ltb}
-use lib.ListN.{length, getD, set, drop}
+use lib.ListN.{length, getD, set, take, drop}
 use Rattle.facts.specs.Read.{Read, accepted, check, _>>=_, refused}
-use Rattle.facts.specs.Run.{atMost, runFrom}
-use Rattle.taskfile.specs.Task.{Action, Task, maxList, actionPasses, WfAction}
-use Rattle.taskfile.specs.TaskFile.{readTask, runTask}
+use Rattle.facts.specs.State.{Inside}
+use Rattle.facts.specs.Write.{Wrote}
+use Rattle.facts.specs.Run.{atMost}
+use Rattle.taskfile.specs.Task.{Node, Action, Task, maxList, maxVariables, WfNode, WfAction}
+use Rattle.taskfile.specs.TaskFile.{readTask}
 use Rattle.probe.specs.Probe.{probeSum, maxList as maxProbeList}
-use Rattle.compilation.specs.Compile.{probeOf, stepCount}
-use Rattle.plans.specs.Carry.{firstStep, startedBy}
-use Rattle.facts.specs.Lists.{total}
-use Rattle.taskfile.specs.PartsInPlace.{actionIn, actionsIn, Stood}
+use Rattle.compilation.specs.Compile.{probeOf, edgeCount, stepCount}
+use Rattle.compile.specs.InPlace.{Weighs}
+use Rattle.plans.specs.Carry.{firstStep, pathSteps, startedBy}
+use Rattle.facts.specs.Lists.{total, At}
+use Rattle.taskfile.specs.InPlace.{nodesBefore}
+use Rattle.taskfile.specs.PartsInPlace.{actionsIn}
 use Rattle.carry.specs.CarryFile.{expanded}
 
--- `first-step` has the number of each action's start
-pub record Numbered (actions : List Action) (first-step : List ℕ) : Type 0 where
-  pub numbers : (a : ℕ) → a < length actions → getD first-step a 0 ≡ firstStep actions a
+-- There are at most 576 steps, `firsts` has for each action how many nodes the actions before it have, and there is room for so many nodes.
+pub record Rows (actions : List Action) (firsts : List ℕ) (room : ℕ) : Type 0 where
+  pub few : total stepCount actions ≤ 576
+  pub first-is : {a : ℕ} {x : Action} → At actions a x → getD firsts a 0 ≡ nodesBefore actions a
+  pub fits : total (λ x. length (x .nodes)) actions ≤ room
+
+-- `first-edge` has the number of the first edge of each of these nodes, where `from` is the first node's
+pub record Edges (nodes : List Node) (from : ℕ) (first-edge : List ℕ) : Type 0 where
+  pub number : (j : ℕ) → j < length nodes → getD first-edge j 0 ≡ from + total edgeCount (take j nodes)
+
+-- `first-step` has the number of each action's start, and past the last the number of all steps; `first-edge` has, from each action's first node on, the number of the first
+-- edge of each of its nodes
+pub record Numbered (actions : List Action) (firsts first-step first-edge : List ℕ) : Type 0 where
+  pub numbers : (a : ℕ) → a ≤ length actions → getD first-step a 0 ≡ firstStep actions a
+  pub edges : {a : ℕ} {x : Action} → At actions a x → Edges (x .nodes) (1 + firstStep actions a) (drop (getD firsts a 0) first-edge)
 
 -- `action-of` has at the number of each start 1 and the number of its action, and at every other number 0
 pub record Noted (actions : List Action) (action-of : List ℕ) : Type 0 where
@@ -56,29 +72,41 @@ pub record ProbePlanOf (f list : List ℕ) (sum : ℕ) : Type 0 where
   pub few : atMost maxProbeList list ≡ accepted tt
   pub sums : probeSum (probeOf t) list ≡ accepted sum
 
+-- ---- one action
+
+-- the step numbers of an action with these nodes, whose start is `first`, in the state s before it
+abbrev pub entriesOf : ℕ → List Node → List ℕ → List ℕ
+entriesOf first nodes s = first ∷ pathSteps (suc first) 1 nodes 1 s
+
+-- The step numbers of an action with these nodes, whose start is `first` and whose end comes before `next`, can be written in the state s: the nodes are well-formed, `first-edge` has
+-- the number of each node's first edge, and there is room.
+pub record Writable (sizes : List ℕ) (nodes : List Node) (first-edge : List ℕ) (first next : ℕ) (s : List ℕ) (room : ℕ) : Type 0 where
+  pub well-formed : {j : ℕ} {nd : Node} → At nodes j nd → WfNode sizes nodes (suc j) nd
+  pub inside : Inside sizes s
+  pub edges : Edges nodes (1 + first) first-edge
+  pub next-is : next ≡ first + (2 + total edgeCount nodes)
+  pub few : next ≤ 576
+  pub fits : length (entriesOf first nodes s) ≤ room
+
 -- ---- lists of actions
 
--- how many nodes the walks of a list of at most 256 actions pass: the refusals of a run
-unfoldable pub passedTask : List ℕ → List ℕ → Read ℕ
-passedTask f list = do
-  t ← readTask f
-  _ ← atMost maxList list
-  runFrom (length (t .actions)) (actionPasses (t .actions)) (t .goal) 0 0 list (t .init)
-
--- `list` is a plan of the task of f, of at most 256 actions
-pub record Planned (f list : List ℕ) : Type 0 where
-  pub sum : ℕ
-  pub runs : runTask f list ≡ accepted sum
+-- step numbers of one action: a start, an edge for each variable, an end
+abbrev pub maxEntries : ℕ
+maxEntries = 26
 
 -- the probe list that comes from a list of actions, and no entries where it is refused
 unfoldable pub expansion : List ℕ → List ℕ → List ℕ
 expansion f list = elim (expanded f list) [ accepted c ↦ c .0 | refused n p ↦ [] ]
 
--- what the probe list of a list of actions is written from: each action stands in the file at its offset and is well-formed, each start has its number,
--- there are at most 576 steps, and the list has only numbers of actions
-pub record Prepared (f sizes actions firsts nodes first-step list : List ℕ) : Type 0 where
-  pub stood : (a : ℕ) → a < length actions → Stood f sizes (getD actions a 0) (drop (getD firsts a 0) nodes)
-  pub well-formed : (a : ℕ) → a < length actions → WfAction sizes (actionIn f sizes (getD actions a 0) (drop (getD firsts a 0) nodes))
-  pub starts : Numbered (actionsIn f sizes actions firsts nodes 0 (length actions)) first-step
+-- where the answer is a sum, these entries were written at the front of a buffer, which was `before` and is `now`
+pub record WroteIf (answer : Read ℕ) (entries before now : List ℕ) (n : ℕ) : Type 0 where
+  pub wrote : {c : ℕ} → answer ≡ accepted c → Wrote entries before now n
+
+-- what the probe list of a list of actions is written from: each action is well-formed and its incoming weight is noted, the steps have their numbers, and there are at most 24 variables and 576 steps
+pub record Prepared (f sizes actions incoming firsts nodes first-step first-edge : List ℕ) : Type 0 where
+  pub weighs : (a : ℕ) → a < length actions → Weighs f (getD actions a 0) (getD incoming a 0)
+  pub variables : length sizes ≤ maxVariables
+  pub well-formed : {a : ℕ} {x : Action} → At (actionsIn f sizes actions firsts nodes 0 (length actions)) a x → WfAction sizes x
+  pub numbered : Numbered (actionsIn f sizes actions firsts nodes 0 (length actions)) firsts first-step first-edge
   pub few : total stepCount (actionsIn f sizes actions firsts nodes 0 (length actions)) ≤ 576
-  pub known : (i : ℕ) → i < length list → getD list i 0 < length actions
+  pub rows : length first-edge ≡ length nodes

@@ -11,6 +11,7 @@ pub mod InPlace
 -- Laws of the code.
 pub mod AnswerLaws
 pub mod ActionLaws
+pub mod NumberLaws
 pub mod ExpandLaws
 pub mod NoteLaws
 pub mod ContractLaws

@@ -113,7 +113,7 @@ module _ (f : List ℕ) {i : Index} (ready : Ready f i) where
   abbrev begins : List ℕ
   begins = take (i .actions) (i .starts)
 
-  module _ {sizes first-step : List ℕ} (e : sizes ≡ t .sizes) (n : Numbered (actionsIn f sizes begins (i .firsts) (i .nodes) 0 (length begins)) first-step) (long : i .actions ≤ length first-step) where
+  module _ {sizes first-step first-edge : List ℕ} (e : sizes ≡ t .sizes) (n : Numbered (actionsIn f sizes begins (i .firsts) (i .nodes) 0 (length begins)) (i .firsts) first-step first-edge) (long : i .actions ≤ length first-step) where
     -- the number of each action's start
     abbrev starts : List ℕ
     starts = take (i .actions) first-step
@@ -126,7 +126,7 @@ module _ (f : List ℕ) {i : Index} (ready : Ready f i) where
     start-at : (a : ℕ) → a < length (t .actions) → getD starts a 0 ≡ firstStep (t .actions) a
     start-at a h =
         let same = ap (λ (ds : List ℕ). actionsIn f ds begins (i .firsts) (i .nodes) 0 (length begins)) e ∙ actions-in-place f ready in
-        getD-take (i .actions) first-step a 0 (omega (arith, task-there f ready .actions)) ∙ subst (λ (actions : List Action). Numbered actions first-step) same n .numbers a h
+        getD-take (i .actions) first-step a 0 (omega (arith, task-there f ready .actions)) ∙ subst (λ (actions : List Action). Numbered actions (i .firsts) first-step first-edge) same n .numbers a (omega arith)
 
     -- It is one of 576 numbers.
     pub start-below : (a : ℕ) → a < length starts → getD starts a 0 < 576

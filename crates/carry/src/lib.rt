@@ -9,13 +9,19 @@ use facts::Ran;
 use facts::Refusal;
 use taskfile::Task;
 ghost use mathlib.Core.Path.{_≡_};
+ghost use Prim.Native.Nat.{_*_, _≤_};
 ghost use lib.ListN.{length};
+ghost use Rattle.taskfile.specs.Task.{maxList};
 ghost use Rattle.taskfile.specs.Index.{Ready};
 ghost use Rattle.carry.specs.CarryFile.{expanded, contracted, answerIn, bufferIn};
+ghost use Rattle.carry.specs.InPlace.{maxEntries};
 ghost use Rattle.carry.specs.Answers.{carriedAnswer};
 
 // The most bytes that a written probe file has.
 const WRITTEN: usize = 13846;
+
+// The most actions of a list whose probe list is written into the smaller buffer.
+const SHORT_LIST: usize = 32;
 
 // The length of the list that was written and its sum, or the refusal.
 pub enum Carried {
@@ -40,22 +46,39 @@ pub fn expand(file: &[u8], list: &[u16], out: &mut [u16]) -> Carried
     }
 }
 
-// The same, of a file that is accepted.
+// The same, of a file that is accepted: the probe list is written into a buffer of its own first, as a list may be refused at its end.
 fn expand_in(file: &[u8], task: Task, list: &[u16], out: &mut [u16]) -> Carried
     requires { ⌜ Ready (now file) task ⌝ }
     ensures { λ r. ⌜ carriedAnswer r ≡ answerIn (length (now (out .entry))) (expanded (now (file .entry)) (now (list .entry))) ⌝ }
     ensures { λ r. ⌜ now (out .exit) ≡ bufferIn (now (out .entry)) (expanded (now (file .entry)) (now (list .entry))) ⌝ }
 {
-    let run = plan::run_plan(file, task, list);
-    let answer = run.answer;
+    if Task::MAX_LIST < list.len() {
+        return Carried::Refused(Refusal::Long(Task::MAX_LIST));
+    }
+    if list.len() <= SHORT_LIST {
+        let mut few = [0; 832];
+        return expand_by(file, task, list, &mut few, out);
+    }
+    let mut many = [0; 6656];
+    expand_by(file, task, list, &mut many, out)
+}
+
+// The same by a buffer that has room for the probe list.
+fn expand_by(file: &[u8], task: Task, list: &[u16], room: &mut [u16], out: &mut [u16]) -> Carried
+    requires { ⌜ Ready (now file) task × (length (now list) ≤ maxList) × (maxEntries * length (now list) ≤ length (now room)) ⌝ }
+    ensures { λ r. ⌜ carriedAnswer r ≡ answerIn (length (now (out .entry))) (expanded (now (file .entry)) (now (list .entry))) ⌝ }
+    ensures { λ r. ⌜ now (out .exit) ≡ bufferIn (now (out .entry)) (expanded (now (file .entry)) (now (list .entry))) ⌝ }
+{
+    let listed = plan::put_plan(file, task, list, room);
+    let answer = listed.answer;
+    let written = listed.written;
     match answer {
         Ran::Refused(why) => Carried::Refused(why),
         Ran::Sum(sum) => {
-            let needed = 2 * list.len() + run.passed;
-            if out.len() < needed {
-                return Carried::Refused(Refusal::Short(needed));
+            if out.len() < written {
+                return Carried::Refused(Refusal::Short(written));
             }
-            let written = plan::put_plan(file, task, list, out);
+            plan::put_entries(&room[..written], out);
             Carried::List(written, sum)
         }
     }

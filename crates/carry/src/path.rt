@@ -1,69 +1,117 @@
-// The step numbers of one action in a state: its start, the edge for the state's value at each node passed, its end.
-use compile::count::edge_count;
-use compile::count::node_count;
+// One action done in a state, and its step numbers: its start, the edge for the state's value at each node passed, its end.
+use facts::Applied;
+use facts::Held;
 use facts::number::byte_at;
 use facts::number::offset_at;
-ghost use Prim.Native.Nat.{_+_, _≤_, _<_};
+use facts::number::word_at;
+use facts::partial::apply_at;
+use facts::partial::held_at;
+use taskfile::walk::edge_for;
+ghost use mathlib.Core.Path.{_≡_};
+ghost use Prim.Native.Nat.{_*_, _≤_};
 ghost use lib.ListN.{length};
-ghost use Rattle.facts.specs.Lists.{total};
-ghost use Rattle.facts.specs.State.{Inside};
+ghost use Rattle.facts.specs.Answers.{appliedMove, CostMost};
 ghost use Rattle.facts.specs.Write.{Wrote};
-ghost use Rattle.taskfile.specs.Task.{WfAction};
-ghost use Rattle.compilation.specs.Compile.{edgeCount, stepCount};
-ghost use Rattle.taskfile.specs.PartsInPlace.{actionIn};
-ghost use Rattle.plans.specs.Carry.{pathSteps, actionList};
+ghost use Rattle.taskfile.specs.Task.{maxWeight};
+ghost use Rattle.taskfile.specs.WalkInPlace.{maxPassed, maxWalk, performAt, wayFrom};
+ghost use Rattle.taskfile.specs.PartsInPlace.{nodesIn, actionIn};
+ghost use Rattle.compile.specs.InPlace.{Weighs};
+ghost use Rattle.plans.specs.Carry.{actionList};
+ghost use Rattle.carry.specs.Answers.{putEntries};
+ghost use Rattle.carry.specs.InPlace.{Writable, entriesOf};
 
-// The bytes of an edge, target and weight.
-const EDGE_BYTES: usize = 3;
+// What an action answers, and how many entries were written for it.
+pub struct Put {
+    pub answer: Applied,
+    pub written: usize,
+}
 
-// The step numbers of the action at an offset, whose own nodes begin at the offsets `nodes`, and whose start is step `first`.
+// The weights of the edges passed, and how many entries were written.
+pub struct Path {
+    pub cost: u32,
+    pub written: usize,
+}
+
+// Does the action at an offset, whose incoming weight is at `incoming` and whose own nodes begin at the offsets `nodes`, and writes its step numbers: its start is step `first`, the next action's would be `next`, and `first_edge` has the number
+// of each node's first edge. Where its precondition does not hold nothing is written.
 pub fn put_action(
     file: &[u8],
     sizes: &[u8],
     at: usize,
+    incoming: usize,
     nodes: &[usize],
+    first_edge: &[usize],
     first: usize,
-    state: &[u8],
+    next: usize,
+    state: &mut [u8],
     out: &mut [u16],
-) -> usize
-    requires { ⌜ WfAction (now sizes) (actionIn (now file) (now sizes) at (now nodes)) × Inside (now sizes) (now state) ⌝ }
-    requires { ⌜ first + stepCount (actionIn (now file) (now sizes) at (now nodes)) ≤ 576 ⌝ }
-    requires { ⌜ length (actionList first (actionIn (now file) (now sizes) at (now nodes)) (now state)) ≤ length (now out) ⌝ }
-    ensures { λ r. ⌜ Wrote (actionList first (actionIn (now (file .entry)) (now (sizes .entry)) at (now (nodes .entry))) (now (state .entry))) (now (out .entry)) (now (out .exit)) r ⌝ }
+) -> Put
+    requires { ⌜ Weighs (now file) at incoming ⌝ }
+    requires { ⌜ Writable (now sizes) (actionIn (now file) (now sizes) at (now nodes) .nodes) (now «first_edge») first next (now state) (length (now out)) ⌝ }
+    ensures { λ r. ⌜ appliedMove (r .answer) (now (state .exit)) ≡ performAt (now (file .entry)) at (now (nodes .entry)) (now (state .entry)) ⌝ }
+    ensures { λ r. ⌜ CostMost maxWalk (r .answer) ⌝ }
+    ensures { λ r. ⌜ Wrote (putEntries (r .answer) (actionList first (actionIn (now (file .entry)) (now (sizes .entry)) at (now (nodes .entry))) (now (state .entry)))) (now (out .entry)) (now (out .exit)) (r .written) ⌝ }
 {
-    out[0] = first as u16;
-    1 + put_path(file, sizes, at, nodes, 1 + first, state, &mut out[1..])
+    match held_at(file, at, state) {
+        Held::Not => Put {
+            answer: Applied::Blocked,
+            written: 0,
+        },
+        Held::Ends(effect) => {
+            let weight = word_at(file, incoming);
+            let count = byte_at(file, incoming + 2) as usize;
+            let path = put_path(
+                file,
+                sizes,
+                nodes,
+                count,
+                first_edge,
+                first,
+                next,
+                state,
+                out,
+            );
+            apply_at(file, effect, state);
+            Put {
+                answer: Applied::Next(weight + path.cost),
+                written: path.written,
+            }
+        }
+    }
 }
 
-// The step numbers from node 1 to the terminal, and of the end, of the same action: `first` is the number of the first node's first step.
+// The step numbers of an action with `count` nodes, and what the edges passed from node 1 to the terminal cost.
 fn put_path(
     file: &[u8],
     sizes: &[u8],
-    at: usize,
     nodes: &[usize],
+    count: usize,
+    first_edge: &[usize],
     first: usize,
+    next: usize,
     state: &[u8],
     out: &mut [u16],
-) -> usize
-    requires { ⌜ WfAction (now sizes) (actionIn (now file) (now sizes) at (now nodes)) × Inside (now sizes) (now state) ⌝ }
-    requires { ⌜ first + total edgeCount (actionIn (now file) (now sizes) at (now nodes) .nodes) < 576 ⌝ }
-    requires { ⌜ length (pathSteps first 1 (actionIn (now file) (now sizes) at (now nodes) .nodes) 1 (now state)) ≤ length (now out) ⌝ }
-    ensures { λ r. ⌜ Wrote (pathSteps first 1 (actionIn (now (file .entry)) (now (sizes .entry)) at (now (nodes .entry)) .nodes) 1 (now (state .entry))) (now (out .entry)) (now (out .exit)) r ⌝ }
+) -> Path
+    requires { ⌜ (count ≤ maxPassed) × Writable (now sizes) (nodesIn (now file) (now sizes) (now nodes) 0 count) (now «first_edge») first next (now state) (length (now out)) ⌝ }
+    ensures { λ r. ⌜ Wrote (entriesOf first (nodesIn (now (file .entry)) (now (sizes .entry)) (now (nodes .entry)) 0 count) (now (state .entry))) (now (out .entry)) (now (out .exit)) (r .written) ⌝ }
+    ensures { λ r. ⌜ (r .cost ≡ wayFrom (now (file .entry)) (now (nodes .entry)) count (now (state .entry)) 1 .cost) × (r .cost ≤ maxWeight * maxPassed) ⌝ }
 {
-    let count = node_count(file, at);
-    let mut written: usize = 0;
-    let mut next = first;
-    let mut k: u8 = 1;
+    out[0] = first as u16;
+    let mut written: usize = 1;
+    let mut cost: u32 = 0;
+    let mut k: usize = 1;
     while k <= count {
-        let j = k - 1;
-        let node = offset_at(nodes, j as usize);
-        let value = byte_at(state, byte_at(file, node) as usize) as usize;
-        out[written] = (next + value) as u16;
+        let node = offset_at(nodes, k - 1);
+        let value = byte_at(state, byte_at(file, node) as usize);
+        out[written] = (offset_at(first_edge, k - 1) + value as usize) as u16;
         written += 1;
-        let target = byte_at(file, node + (1 + EDGE_BYTES * value));
-        next += edge_count(file, sizes, nodes, j, target - k);
-        k = target;
+        let edge = edge_for(file, node, value);
+        cost += edge.weight;
+        k = edge.target;
     }
-    out[written] = next as u16;
-    written + 1
+    out[written] = (next - 1) as u16;
+    Path {
+        cost,
+        written: written + 1,
+    }
 }

@@ -1,54 +1,40 @@
-// A list of actions: run, and its probe list written.
+// A list of actions run, and its probe list written in the same walk.
 use crate::path::put_action;
-use crate::starts::number_starts;
+use crate::starts::number_steps;
+use compile::length::note_incoming;
+use facts::Applied;
+use facts::Ran;
+use facts::Refusal;
 use facts::number::offset_at;
 use facts::number::offset_within;
-use facts::partial::apply_at;
-use facts::partial::length_at;
+use facts::partial::holds_at;
 use taskfile::Task;
-use taskfile::action::Run;
-use taskfile::action::run_list;
 ghost use mathlib.Core.Path.{_≡_};
 ghost use Prim.Native.Nat.{_+_, _*_, _≤_};
 ghost use lib.ListN.{length, take, drop};
 ghost use Rattle.facts.specs.Answers.{ranAnswer};
+ghost use Rattle.facts.specs.Partial.{partialAt};
 ghost use Rattle.facts.specs.State.{Inside};
 ghost use Rattle.facts.specs.Write.{Wrote};
-ghost use Rattle.taskfile.specs.Answers.{passedAnswer};
+ghost use Rattle.taskfile.specs.Task.{maxList};
 ghost use Rattle.taskfile.specs.Index.{Ready};
 ghost use Rattle.taskfile.specs.TaskFile.{runTask};
+ghost use Rattle.taskfile.specs.WalkInPlace.{moveAt, runList};
 ghost use Rattle.taskfile.specs.PartsInPlace.{actionsIn};
 ghost use Rattle.plans.specs.Carry.{expandFrom};
-ghost use Rattle.carry.specs.InPlace.{passedTask, Planned, expansion, Prepared};
+ghost use Rattle.carry.specs.InPlace.{expansion, maxEntries, Prepared, WroteIf};
 
-// The sum of a list of actions and how many nodes their walks pass, or the refusal.
-pub fn run_plan(file: &[u8], task: Task, list: &[u16]) -> Run
-    requires { ⌜ Ready (now file) task ⌝ }
-    ensures { λ r. ⌜ ranAnswer (r .answer) ≡ runTask (now (file .entry)) (now (list .entry)) ⌝ }
-    ensures { λ r. ⌜ passedAnswer r ≡ passedTask (now (file .entry)) (now (list .entry)) ⌝ }
-{
-    let variables = task.variables;
-    let actions = task.actions;
-    let starts = task.starts;
-    let firsts = task.firsts;
-    let nodes = task.nodes;
-    let mut state = initial(file, variables);
-    run_list(
-        file,
-        1 + 2 * variables,
-        &starts[..actions],
-        &firsts,
-        &nodes,
-        list,
-        &mut state[..variables],
-    )
+// What a run answers, and how many entries were written.
+pub struct Listed {
+    pub answer: Ran,
+    pub written: usize,
 }
 
-// Writes the probe list that comes from a plan.
-pub fn put_plan(file: &[u8], task: Task, list: &[u16], out: &mut [u16]) -> usize
-    requires { ⌜ Ready (now file) task × Planned (now file) (now list) ⌝ }
-    requires { ⌜ length (expansion (now file) (now list)) ≤ length (now out) ⌝ }
-    ensures { λ r. ⌜ Wrote (expansion (now (file .entry)) (now (list .entry))) (now (out .entry)) (now (out .exit)) r ⌝ }
+// Runs a list of at most 256 actions and writes its probe list; what is written for a list that is refused says nothing.
+pub fn put_plan(file: &[u8], task: Task, list: &[u16], out: &mut [u16]) -> Listed
+    requires { ⌜ Ready (now file) task × (length (now list) ≤ maxList) × (maxEntries * length (now list) ≤ length (now out)) ⌝ }
+    ensures { λ r. ⌜ ranAnswer (r .answer) ≡ runTask (now (file .entry)) (now (list .entry)) ⌝ }
+    ensures { λ r. ⌜ WroteIf (runTask (now (file .entry)) (now (list .entry))) (expansion (now (file .entry)) (now (list .entry))) (now (out .entry)) (now (out .exit)) (r .written) ⌝ }
 {
     let variables = task.variables;
     let actions = task.actions;
@@ -58,16 +44,30 @@ pub fn put_plan(file: &[u8], task: Task, list: &[u16], out: &mut [u16]) -> usize
     let last = 1 + variables;
     let sizes = &file[1..last];
     let action_at = &starts[..actions];
-    let mut first_step = [0; 32];
-    number_starts(file, sizes, action_at, &firsts, &nodes, &mut first_step);
-    let mut state = initial(file, variables);
-    put_list(
+    let mut first_step = [0; 33];
+    let mut first_edge = [0; 64];
+    number_steps(
         file,
         sizes,
         action_at,
         &firsts,
         &nodes,
+        &mut first_step,
+        &mut first_edge,
+    );
+    let mut incoming_at = [0; 32];
+    note_incoming(file, action_at, &mut incoming_at);
+    let mut state = initial(file, variables);
+    put_list(
+        file,
+        sizes,
+        1 + 2 * variables,
+        action_at,
+        &incoming_at,
+        &firsts,
+        &nodes,
         &first_step,
+        &first_edge,
         list,
         &mut state[..variables],
         out,
@@ -86,39 +86,81 @@ fn initial(file: &[u8], variables: usize) -> [u8; 24]
     state
 }
 
-// Writes the probe list that comes from a list of actions, from a state on: `first_step` has the number of each action's start.
+// The same from a state on, by the offsets of an accepted file and the numbers of its steps; the goal starts at `goal`.
 fn put_list(
     file: &[u8],
     sizes: &[u8],
+    goal: usize,
     action_at: &[usize],
+    incoming_at: &[usize],
     first_node: &[usize],
     node_at: &[usize],
     first_step: &[usize],
+    first_edge: &[usize],
     list: &[u16],
     state: &mut [u8],
     out: &mut [u16],
-) -> usize
-    requires { ⌜ Prepared (now file) (now sizes) (now «action_at») (now «first_node») (now «node_at») (now «first_step») (now list) × Inside (now sizes) (now state) ⌝ }
-    requires { ⌜ length (expandFrom (actionsIn (now file) (now sizes) (now «action_at») (now «first_node») (now «node_at») 0 (length (now «action_at»))) (now list) (now state)) ≤ length (now out) ⌝ }
-    ensures { λ r. ⌜ Wrote (expandFrom (actionsIn (now (file .entry)) (now (sizes .entry)) (now («action_at» .entry)) (now («first_node» .entry)) (now («node_at» .entry)) 0 (length (now («action_at» .entry)))) (now (list .entry)) (now (state .entry))) (now (out .entry)) (now (out .exit)) r ⌝ }
+) -> Listed
+    requires { ⌜ Prepared (now file) (now sizes) (now «action_at») (now «incoming_at») (now «first_node») (now «node_at») (now «first_step») (now «first_edge») × Inside (now sizes) (now state) ⌝ }
+    requires { ⌜ (length (now list) ≤ maxList) × (maxEntries * length (now list) ≤ length (now out)) ⌝ }
+    ensures { λ r. ⌜ ranAnswer (r .answer) ≡ runList (length (now («action_at» .entry))) (moveAt (now (file .entry)) (now («action_at» .entry)) (now («first_node» .entry)) (now («node_at» .entry))) (partialAt (now (file .entry)) goal) (now (list .entry)) (now (state .entry)) ⌝ }
+    ensures { λ r. ⌜ WroteIf (ranAnswer (r .answer)) (expandFrom (actionsIn (now (file .entry)) (now (sizes .entry)) (now («action_at» .entry)) (now («first_node» .entry)) (now («node_at» .entry)) 0 (length (now («action_at» .entry)))) (now (list .entry)) (now (state .entry))) (now (out .entry)) (now (out .exit)) (r .written) ⌝ }
 {
+    let mut sum: u32 = 0;
     let mut written: usize = 0;
     let mut i: usize = 0;
     while i < list.len() {
         let number = list[i] as usize;
-        let at = offset_at(action_at, number);
+        if action_at.len() <= number {
+            return Listed {
+                answer: Ran::Refused(Refusal::Missing(i)),
+                written,
+            };
+        }
         let first = offset_within(first_node, number, node_at.len());
-        written += put_action(
+        let put = put_action(
             file,
             sizes,
-            at,
+            action_at[number],
+            offset_at(incoming_at, number),
             &node_at[first..],
+            &first_edge[first..],
             offset_at(first_step, number),
+            offset_at(first_step, number + 1),
             state,
             &mut out[written..],
         );
-        apply_at(file, at + length_at(file, at), state);
+        let answer = put.answer;
+        let Applied::Next(cost) = answer else {
+            return Listed {
+                answer: Ran::Refused(Refusal::Blocked(i)),
+                written,
+            };
+        };
+        sum += cost;
+        written += put.written;
         i += 1;
     }
-    written
+    if holds_at(file, goal, state) {
+        return Listed {
+            answer: Ran::Sum(sum),
+            written,
+        };
+    }
+    Listed {
+        answer: Ran::Refused(Refusal::Unmet(i)),
+        written,
+    }
+}
+
+// Copies entries to the front of a buffer.
+pub fn put_entries(entries: &[u16], out: &mut [u16])
+    requires { ⌜ length (now entries) ≤ length (now out) ⌝ }
+    ensures { λ r. ⌜ Wrote (now (entries .entry)) (now (out .entry)) (now (out .exit)) (length (now (entries .entry))) ⌝ }
+{
+    let mut i: usize = 0;
+    while i < entries.len() {
+        out[i] = entries[i];
+        i += 1;
+    }
 }

@@ -1,32 +1,36 @@
 // Starts among the steps: their numbers, and the actions that a probe list starts.
 use crate::Carried;
-use compile::count::edge_count;
 use compile::count::node_count;
 use facts::Refusal;
+use facts::number::byte_at;
 use facts::number::offset_at;
 use facts::number::offset_within;
 use taskfile::Task;
 ghost use mathlib.Core.Path.{_≡_};
-ghost use Prim.Native.Nat.{ℕ, _≤_, _<_};
+ghost use Prim.Native.Nat.{ℕ, _+_, _≤_, _<_};
 ghost use lib.ListN.{length, getD, replicate};
+ghost use Rattle.facts.specs.Lists.{total};
 ghost use Rattle.facts.specs.Write.{Wrote};
 ghost use Rattle.taskfile.specs.Index.{Ready};
-ghost use Rattle.taskfile.specs.PartsInPlace.{actionsIn};
+ghost use Rattle.taskfile.specs.PartsInPlace.{nodesIn, actionsIn};
+ghost use Rattle.compilation.specs.Compile.{edgeCount};
 ghost use Rattle.carry.specs.CarryFile.{contracted, answerIn, bufferIn};
 ghost use Rattle.carry.specs.Answers.{carriedAnswer, startsAnswer};
-ghost use Rattle.carry.specs.InPlace.{Numbered, NotedIn, noteFrom, contractIn, countIn, ProbePlanOf};
+ghost use Rattle.carry.specs.InPlace.{Rows, Edges, Numbered, NotedIn, noteFrom, contractIn, countIn, ProbePlanOf};
 
-// The number of each action's start: all steps of the actions before it come first.
-pub fn number_starts(
+// Numbers the steps: notes the number of each action's start, past the last the number of all steps, and for each node, at its index in `node_at`, the number of its first edge.
+pub fn number_steps(
     file: &[u8],
     sizes: &[u8],
     action_at: &[usize],
     first_node: &[usize],
     node_at: &[usize],
     first_step: &mut [usize],
+    first_edge: &mut [usize],
 )
-    requires { ⌜ (length (now «action_at») ≤ 32) × (length (now «action_at») ≤ length (now «first_step»)) ⌝ }
-    ensures { λ r. ⌜ Numbered (actionsIn (now (file .entry)) (now (sizes .entry)) (now («action_at» .entry)) (now («first_node» .entry)) (now («node_at» .entry)) 0 (length (now («action_at» .entry)))) (now («first_step» .exit)) ⌝ }
+    requires { ⌜ length (now «action_at») < length (now «first_step») ⌝ }
+    requires { ⌜ Rows (actionsIn (now file) (now sizes) (now «action_at») (now «first_node») (now «node_at») 0 (length (now «action_at»))) (now «first_node») (length (now «first_edge»)) ⌝ }
+    ensures { λ r. ⌜ Numbered (actionsIn (now (file .entry)) (now (sizes .entry)) (now («action_at» .entry)) (now («first_node» .entry)) (now («node_at» .entry)) 0 (length (now («action_at» .entry)))) (now («first_node» .entry)) (now («first_step» .exit)) (now («first_edge» .exit)) ⌝ }
 {
     let mut next: usize = 0;
     let mut a: usize = 0;
@@ -34,9 +38,43 @@ pub fn number_starts(
         first_step[a] = next;
         let first = offset_within(first_node, a, node_at.len());
         let count = node_count(file, action_at[a]);
-        next += 2 + edge_count(file, sizes, &node_at[first..], 0, count);
+        let row = offset_within(first_node, a, first_edge.len());
+        next = 1
+            + number_edges(
+                file,
+                sizes,
+                &node_at[first..],
+                count,
+                1 + next,
+                &mut first_edge[row..],
+            );
         a += 1;
     }
+    first_step[a] = next;
+}
+
+// Notes the number of the first edge of each of `count` nodes, where `from` is the first node's; answers the number after their edges.
+fn number_edges(
+    file: &[u8],
+    sizes: &[u8],
+    nodes: &[usize],
+    count: u8,
+    from: usize,
+    first_edge: &mut [usize],
+) -> usize
+    requires { ⌜ (count ≤ length (now «first_edge»)) × (from + total edgeCount (nodesIn (now file) (now sizes) (now nodes) 0 count) ≤ 576) ⌝ }
+    ensures { λ r. ⌜ r ≡ from + total edgeCount (nodesIn (now (file .entry)) (now (sizes .entry)) (now (nodes .entry)) 0 count) ⌝ }
+    ensures { λ r. ⌜ Edges (nodesIn (now (file .entry)) (now (sizes .entry)) (now (nodes .entry)) 0 count) from (now («first_edge» .exit)) ⌝ }
+{
+    let mut next = from;
+    let mut j: usize = 0;
+    while j < count as usize {
+        first_edge[j] = next;
+        let variable = byte_at(file, offset_at(nodes, j)) as usize;
+        next += byte_at(sizes, variable) as usize;
+        j += 1;
+    }
+    next
 }
 
 // How many actions a probe list starts, or where it starts one more than 256.
@@ -77,14 +115,16 @@ fn note_starts(file: &[u8], task: Task, action_of: &mut [usize])
     let firsts = task.firsts;
     let nodes = task.nodes;
     let last = 1 + variables;
-    let mut first_step = [0; 32];
-    number_starts(
+    let mut first_step = [0; 33];
+    let mut first_edge = [0; 64];
+    number_steps(
         file,
         &file[1..last],
         &starts[..actions],
         &firsts,
         &nodes,
         &mut first_step,
+        &mut first_edge,
     );
     note_actions(&first_step[..actions], action_of);
 }

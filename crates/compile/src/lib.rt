@@ -2,7 +2,7 @@
 mod action;
 pub mod count;
 mod head;
-mod length;
+pub mod length;
 mod put;
 mod step;
 

@@ -4,9 +4,9 @@ use Prim.Native.Nat.{ℕ, zero, suc, _+_, _-_, _≤_, _<_}
 use mathlib.Core.Bool.{true, false}
 use mathlib.Core.List.{List}
 use lib.Dec.{leb, ltb}
-use lib.ListN.{length, getD}
+use lib.ListN.{length, getD, take}
 use Rattle.facts.specs.Read.{Read, accepted, check, withValue, _>>=_}
-use Rattle.facts.specs.Lists.{upFrom, At}
+use Rattle.facts.specs.Lists.{total, upFrom, At}
 use Rattle.facts.specs.Fields.{each, nextOf}
 use Rattle.taskfile.specs.Task.{Node, Action, Task, maxNodes}
 use Rattle.taskfile.specs.TaskFile.{edgeBytes, readNode, readNodes, readDiagram, readAction, readActions, readTask}
@@ -80,10 +80,15 @@ pub record Lies (f sizes : List ℕ) (x : Action) (at first : ℕ) (nodes : List
   pub action : readAction f sizes left at ≡ accepted (x, next)
   pub node : (j : ℕ) (nd : Node) → At (x .nodes) j nd → (end : ℕ) × (readNode f sizes (length (x .nodes)) (suc j) (getD nodes (first + j) 0) ≡ accepted (nd, end))
 
--- the same for each of the `count` actions from an offset on, where all are accepted
+-- how many nodes the actions before number a have
+abbrev pub nodesBefore : List Action → ℕ → ℕ
+nodesBefore actions a = total (λ x. length (x .nodes)) (take a actions)
+
+-- the same for each of the `count` actions from an offset on, where all are accepted; an action's first node comes after the nodes of those before it
 pub record Listed (f sizes : List ℕ) (count from : ℕ) (actions firsts nodes : List ℕ) : Type 0 where
   pub lies : (xs : List Action) (end : ℕ) → readActions f sizes count maxNodes from ≡ accepted (xs, end) → (a : ℕ) (x : Action) → At xs a x
       → Lies f sizes x (getD actions a 0) (getD firsts a 0) nodes
+  pub first-is : (xs : List Action) (end : ℕ) → readActions f sizes count maxNodes from ≡ accepted (xs, end) → (a : ℕ) (x : Action) → At xs a x → getD firsts a 0 ≡ nodesBefore xs a
 
 -- ---- a whole file
 
@@ -94,3 +99,4 @@ taskAt f = withValue (λ t. (length (t .sizes), length (t .actions))) (readTask 
 -- the offset of each action of an accepted file, the number of its first node among all nodes, and the offset of each node
 pub record Located (f actions firsts nodes : List ℕ) : Type 0 where
   pub lies : (t : Task) → readTask f ≡ accepted t → (a : ℕ) (x : Action) → At (t .actions) a x → Lies f (t .sizes) x (getD actions a 0) (getD firsts a 0) nodes
+  pub first-is : (t : Task) → readTask f ≡ accepted t → (a : ℕ) (x : Action) → At (t .actions) a x → getD firsts a 0 ≡ nodesBefore (t .actions) a

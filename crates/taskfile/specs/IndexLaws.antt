@@ -1,22 +1,21 @@
 -- Laws of the pass that checks a task file and notes where its actions and nodes start.
-use mathlib.Core.Path.{_≡_, refl, sym, ap, ap₂, _∙_, subst, subst₂}
+use mathlib.Core.Path.{_≡_, refl, sym, ap, ap₂, _∙_, subst}
 use mathlib.Core.Logic.{_⊎_, inl, inr}
-use Prim.Native.Nat.{ℕ, zero, suc, _+_, _*_, _-_, _≤_, _<_}
-use native.Mathlib.Nat.{suc-add, zero-add, sub-zero, eq-or-lt-of-le}
-use native.Mathlib.Numerals.{add-one}
+use Prim.Native.Nat.{ℕ, zero, suc, _+_, _-_, _≤_, _<_}
+use native.Mathlib.Nat.{suc-add, zero-add, sub-zero}
 use native.Mathlib.Omega.{arith}
 use mathlib.Core.List.{List, [], _∷_, _++_}
-use lib.ListN.{length, getD, set, take, drop, length-append}
-use lib.Seq.{getD-set-same, getD-set-other}
+use lib.ListN.{length, getD, set}
+use lib.Seq.{take-append-le, take-at, getD-set-same, getD-set-other}
 use Rattle.facts.specs.Read.{Read, accepted, refused, withValue, _>>=_}
 use Rattle.facts.specs.ReadLaws.{not-refused, through, made, not-made, value-of, next-of}
 use Rattle.facts.specs.Lists.{total, At, here, there}
 use Rattle.facts.specs.ListLaws.{at-none, at-length}
 use Rattle.facts.specs.Fields.{nextOf, Operator, readOperator}
-use Rattle.taskfile.specs.Task.{Node, Action, Task, maxNodes}
-use Rattle.taskfile.specs.TaskFile.{readNode, readDiagram, readAction, readActions, readTask}
+use Rattle.taskfile.specs.Task.{Node, Action, maxNodes}
+use Rattle.taskfile.specs.TaskFile.{readDiagram, readAction, readActions}
 use Rattle.taskfile.specs.TaskReadLaws.{action-read, action-nodes}
-use Rattle.taskfile.specs.InPlace.{diagramAt, Placed, actionAt, Action-placed, Lies, Listed, taskAt, Located}
+use Rattle.taskfile.specs.InPlace.{diagramAt, Placed, actionAt, Action-placed, Lies, nodesBefore, Listed}
 
 -- the number of nodes of an action
 abbrev size : Action → ℕ
@@ -141,7 +140,7 @@ pub record Going (f sizes : List ℕ) (a from at used : ℕ) (actions firsts nod
   pub reads : readActions f sizes a maxNodes from ≡ accepted (done, at)
   pub uses : total size done ≡ used
   pub within : used ≤ maxNodes
-  pub lies : (b : ℕ) (x : Action) → At done b x → Lies f sizes x (getD actions b 0) (getD firsts b 0) nodes × (getD firsts b 0 + size x ≤ used)
+  pub lies : (b : ℕ) (x : Action) → At done b x → Lies f sizes x (getD actions b 0) (getD firsts b 0) nodes × (getD firsts b 0 + size x ≤ used) × (getD firsts b 0 ≡ nodesBefore done b)
 
 pub going-start : (f sizes : List ℕ) (from : ℕ) (actions firsts nodes : List ℕ) → Going f sizes 0 from from 0 actions firsts nodes
 unfolding readActions
@@ -179,13 +178,15 @@ module _ {f sizes : List ℕ} {a from at used : ℕ} {actions firsts nodes : Lis
           rw (getD-set-other actions a b at 0 (λ q. omega arith), getD-set-other firsts a b used 0 (λ q. omega arith)) (
             record { left = o .0 .left; next = o .0 .next; action = o .0 .action; node = λ k nd h. rw (p .kept (getD firsts b 0 + k) (omega (arith, at-length h))) (o .0 .node k nd h) },
             omega arith,
+            o .2 ∙ ap (total size) (sym (take-append-le b (g .done) (x ∷ []) (omega (arith, at-length j)))),
           )
       | inr j ↦
           let n : b ≡ a = j .0 ∙ count-is in
-          subst (λ (z : Action). Lies f sizes z (getD (set actions a at) b 0) (getD (set firsts a used) b 0) nodes′ × (getD (set firsts a used) b 0 + size z ≤ used + size x)) (j .1)
+          subst (λ (z : Action). Lies f sizes z (getD (set actions a at) b 0) (getD (set firsts a used) b 0) nodes′ × (getD (set firsts a used) b 0 + size z ≤ used + size x) × (getD (set firsts a used) b 0 ≡ nodesBefore (g .done ++ (x ∷ [])) b)) (j .1)
           (rw (n, getD-set-same actions a at 0 l, getD-set-same firsts a used 0 m) (
             record { left = left; next = next; action = r; node = λ k nd h. p .lies x next r k nd h },
             omega arith,
+            sym (ap (total size) (take-at (g .done) (x ∷ []) a count-is) ∙ g .uses),
           ))
     ];
   }
@@ -206,7 +207,13 @@ module _ {f sizes : List ℕ} {a from at used : ℕ} {actions firsts nodes : Lis
   going-end e = rw (← e) (ap nextOf (g .reads))
 
   pub going-listed : {count : ℕ} → a ≡ count → Listed f sizes count from actions firsts nodes
-  going-listed e = rw (← e) (record { lies = λ xs end r b x i. g .lies b x (subst (λ (ys : List Action). At ys b x) (value-of (sym r ∙ g .reads)) i) .0 })
+  going-listed e = rw (← e) (record {
+    lies = λ xs end r b x i. g .lies b x (subst (λ (ys : List Action). At ys b x) (value-of (sym r ∙ g .reads)) i) .0;
+    first-is = λ xs end r b x i. let same = value-of (sym r ∙ g .reads) in subst (λ (ys : List Action). getD firsts b 0 ≡ nodesBefore ys b) (sym same) (g .lies b x (subst (λ (ys : List Action). At ys b x) same i) .2);
+  })
 
 pub listed-none : (f sizes : List ℕ) (count from : ℕ) (actions firsts nodes : List ℕ) {n p : ℕ} → nextOf (readActions f sizes count maxNodes from) ≡ refused n p → Listed f sizes count from actions firsts nodes
-listed-none f sizes count from actions firsts nodes h = record { lies = λ xs end r a x i. absurd (not-refused (sym (not-made (λ (p : List Action × ℕ). p .1) (readActions f sizes count maxNodes from) h) ∙ r)) }
+listed-none f sizes count from actions firsts nodes h = record {
+  lies = λ xs end r a x i. absurd (not-refused (sym (not-made (λ (p : List Action × ℕ). p .1) (readActions f sizes count maxNodes from) h) ∙ r));
+  first-is = λ xs end r a x i. absurd (not-refused (sym (not-made (λ (p : List Action × ℕ). p .1) (readActions f sizes count maxNodes from) h) ∙ r));
+}

@@ -103,10 +103,13 @@ module _ (f : List ℕ) {t : Task} (r : readTask f ≡ accepted t) {actions firs
   at-below {t′} n few r′ h = let same : t′ ≡ t = cc (sym r′ ∙ r) in omega (arith, at-length h, ap (λ (t : Task). length (t .actions)) same)
 
   pub located-actions : (n : ℕ) → length (t .actions) ≤ n → Located f (take n actions) firsts nodes
-  located-actions n few = record { lies = λ t′ r′ a x h. rw (getD-take n actions a 0 (at-below n few r′ h)) (loc .lies t′ r′ a x h) }
+  located-actions n few = record { lies = λ t′ r′ a x h. rw (getD-take n actions a 0 (at-below n few r′ h)) (loc .lies t′ r′ a x h); first-is = loc .first-is }
 
   pub located-firsts : (n : ℕ) → length (t .actions) ≤ n → Located f actions (take n firsts) nodes
-  located-firsts n few = record { lies = λ t′ r′ a x h. rw (getD-take n firsts a 0 (at-below n few r′ h)) (loc .lies t′ r′ a x h) }
+  located-firsts n few = record {
+    lies = λ t′ r′ a x h. rw (getD-take n firsts a 0 (at-below n few r′ h)) (loc .lies t′ r′ a x h);
+    first-is = λ t′ r′ a x h. rw (getD-take n firsts a 0 (at-below n few r′ h)) (loc .first-is t′ r′ a x h);
+  }
 
   module _ (all : length actions ≡ length (t .actions)) where
     abbrev nothing : Action

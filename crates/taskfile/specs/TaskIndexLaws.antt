@@ -1,13 +1,11 @@
 -- Laws of the pass over a whole task file: the ways in which it can go, and that what it notes is where the task's actions and nodes stand.
-use mathlib.Core.Path.{_≡_, refl, sym, ap, ap₂, _∙_, subst, subst₂}
+use mathlib.Core.Path.{_≡_, sym, ap, ap₂, _∙_, subst, subst₂}
 use Prim.Native.Nat.{ℕ, _+_, _≤_, _<_}
 use mathlib.Core.List.{List}
-use lib.Dec.{leb}
 use lib.ListN.{length, getD, take, drop}
 use borrow.Author.Tests.{le-leb, lt-leb}
-use Rattle.facts.specs.Read.{Read, accepted, refused, withValue}
+use Rattle.facts.specs.Read.{accepted, refused}
 use Rattle.facts.specs.ReadLaws.{not-refused, made, not-made, value-of, next-of}
-use Rattle.facts.specs.Lists.{At}
 use Rattle.facts.specs.Fields.{nextOf, valueOf, Head, readCount, readHead, headAt, readEnd}
 use Rattle.facts.specs.FieldLaws.{count-read}
 use Rattle.facts.specs.HeadLaws.{headed, headed-sizes, no-head}
@@ -26,7 +24,10 @@ module _ (f : List ℕ) where
   -- what is refused has no actions to be found
   pub located-none : {n p : ℕ} (actions firsts nodes : List ℕ) → taskAt f ≡ refused n p → Located f actions firsts nodes
   unfolding taskAt
-  located-none actions firsts nodes h = record { lies = λ t r a x i. absurd (not-refused (sym (not-made counts (readTask f) h) ∙ r)) }
+  located-none actions firsts nodes h = record {
+    lies = λ t r a x i. absurd (not-refused (sym (not-made counts (readTask f) h) ∙ r));
+    first-is = λ t r a x i. absurd (not-refused (sym (not-made counts (readTask f) h) ∙ r));
+  }
 
   -- the check alone
   pub check-refused : {n p : ℕ} → taskAt f ≡ refused n p → checkTask f ≡ refused n p
@@ -125,18 +126,26 @@ module _ (f : List ℕ) where
               rw (head-is, count-is, sizes-are, actions-are, le-leb (length f) end l)
               (ap₂ (λ (i j : ℕ). accepted (i, j)) (ap length (sym sizes-are) ∙ headed f 24 8 h .count) (actions-count f sizes count maxNodes (at + 1) actions-are))
 
+        -- the actions from this offset on are those of the task that is read, with its domain sizes
+        read-again : (t : Task) → readTask f ≡ accepted t → (end : ℕ) × (readActions f sizes count maxNodes (at + 1) ≡ accepted (t .actions, end)) × (t .sizes ≡ sizes)
+        read-again t r =
+            let l = task-read f r in
+            let head-same = value-of (sym (l .head-is) ∙ head-is) in
+            let at-same : l .at ≡ at = next-of (sym (l .head-is) ∙ head-is) in
+            let c : readCount f 1 32 at ≡ accepted (length (t .actions), l .at + 1) = ap (readCount f 1 32) (sym at-same) ∙ l .count-is in
+            let count-same : length (t .actions) ≡ count = value-of (sym c ∙ count-is) in
+            let sizes-same : t .sizes ≡ sizes = ap (λ (h : Head). h .sizes) head-same ∙ sizes-are in (
+              l .end,
+              subst₂ (λ (i j : ℕ). readActions f sizes i maxNodes (j + 1) ≡ accepted (t .actions, l .end)) count-same at-same
+                  (subst (λ (ds : List ℕ). readActions f ds (length (t .actions)) maxNodes (l .at + 1) ≡ accepted (t .actions, l .end)) sizes-same (l .actions-are)),
+              sizes-same,
+            )
+
         -- what was noted for the actions from this offset on was noted for the task's
         pub located : {starts firsts nodes : List ℕ} → Listed f sizes count (at + 1) starts firsts nodes → Located f starts firsts nodes
         located {starts} {firsts} {nodes} m = record {
           lies = λ t r a x i.
-              let l = task-read f r in
-              let head-same = value-of (sym (l .head-is) ∙ head-is) in
-              let at-same : l .at ≡ at = next-of (sym (l .head-is) ∙ head-is) in
-              let c : readCount f 1 32 at ≡ accepted (length (t .actions), l .at + 1) = ap (readCount f 1 32) (sym at-same) ∙ l .count-is in
-              let count-same : length (t .actions) ≡ count = value-of (sym c ∙ count-is) in
-              let sizes-same : t .sizes ≡ sizes = ap (λ (h : Head). h .sizes) head-same ∙ sizes-are in
-              let all : readActions f sizes count maxNodes (at + 1) ≡ accepted (t .actions, l .end) =
-              subst₂ (λ (i j : ℕ). readActions f sizes i maxNodes (j + 1) ≡ accepted (t .actions, l .end)) count-same at-same
-              (subst (λ (ds : List ℕ). readActions f ds (length (t .actions)) maxNodes (l .at + 1) ≡ accepted (t .actions, l .end)) sizes-same (l .actions-are)) in
-              subst (λ (ds : List ℕ). Lies f ds x (getD starts a 0) (getD firsts a 0) nodes) (sym sizes-same) (m .lies (t .actions) (l .end) all a x i);
+              let o = read-again t r in
+              subst (λ (ds : List ℕ). Lies f ds x (getD starts a 0) (getD firsts a 0) nodes) (sym (o .2)) (m .lies (t .actions) (o .0) (o .1) a x i);
+          first-is = λ t r a x i. let o = read-again t r in m .first-is (t .actions) (o .0) (o .1) a x i;
         }

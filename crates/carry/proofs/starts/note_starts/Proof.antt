@@ -6,6 +6,7 @@ use lib.ListN.{length, take, drop}
 use lib.Seq.{length-take-le}
 use denote.Ref.{now}
 use Rattle.taskfile.specs.AnswerLaws.{there, Starts, starts}
+use Rattle.carry.specs.NumberLaws.{rows-there}
 use Rattle.carry.specs.NoteLaws.{start-below, note-in}
 use borrow.Author.Needs.{needs}
 use Rattle.carry.proofs.starts.note_starts.Statement.{statement}
@@ -25,24 +26,24 @@ few c = omega (arith, begins c .actions, c .pre .0 .starts-long)
 starts-long : (c : tie.Start) → length (take (c .args .task .actions) (c .args .task .starts)) ≡ c .args .task .actions
 starts-long c = length-take-le (c .args .task .actions) (c .args .task .starts) (few c)
 
-number-starts-requires : tie.Need-number-starts-requires
-number-starts-requires c κs =
-    let s = c .before .before .before .before .before .before .before .before .before .before in
-    (omega (arith, starts-long s, begins s .actions), omega (arith, starts-long s, begins s .actions))
+number-steps-requires : tie.Need-number-steps-requires
+number-steps-requires c κs =
+    let s = c .before .before .before .before .before .before .before .before .before .before .before in
+    (omega (arith, starts-long s, begins s .actions), rows-there (now (s .args .file)) (s .pre .0) (sizes-are s) (omega arith))
 
 -- there is a number for each action
-numbers : (c : tie.After-first-step2) → c .before .before .before .before .before .before .before .before .before .before .before .before .args .task .actions ≤ length (c .before .number-starts .last .1 .1 .1 .1 .1 .0)
-numbers c = omega (arith, begins (c .before .before .before .before .before .before .before .before .before .before .before .before) .actions, c .first-step2 .given)
+numbers : (c : tie.After-first-edge2) → c .before .before .before .before .before .before .before .before .before .before .before .before .before .before .args .task .actions ≤ length (c .before .before .number-steps .last .1 .1 .1 .1 .1 .0)
+numbers c = omega (arith, begins (c .before .before .before .before .before .before .before .before .before .before .before .before .before .before) .actions, c .before .first-step2 .given)
 
 note-actions-requires : tie.Need-note-actions-requires
 note-actions-requires c κs =
-    let s = c .before .before .before .before .before .before .before .before .before .before .before .before .before .before in
-    (ap length (s .pre .1), start-below (now (s .args .file)) (s .pre .0) (sizes-are s) (c .before .before .before .number-starts .ensures) (numbers (c .before .before)))
+    let s = c .before .before .before .before .before .before .before .before .before .before .before .before .before .before .before .before in
+    (ap length (s .pre .1), start-below (now (s .args .file)) (s .pre .0) (sizes-are s) (c .before .before .before .before .number-steps .ensures) (numbers (c .before .before)))
 
 returns : tie.Need-returns
 returns c =
-    let s = c .before .before .before .before .before .before .before .before .before .before .before .before .before .before .before .before .before in
-    note-in (now (s .args .file)) (s .pre .0) (sizes-are s) (c .before .before .before .before .before .before .number-starts .ensures) (numbers (c .before .before .before .before .before)) (s .pre .1) (c .before .before .note-actions .ensures)
+    let s = c .before .before .before .before .before .before .before .before .before .before .before .before .before .before .before .before .before .before .before in
+    note-in (now (s .args .file)) (s .pre .0) (sizes-are s) (c .before .before .before .before .before .before .before .number-steps .ensures) (numbers (c .before .before .before .before .before)) (s .pre .1) (c .before .before .note-actions .ensures)
 
 pub note-starts-spec : {M : Type 1} → statement M
 note-starts-spec =
@@ -57,7 +58,8 @@ note-starts-spec =
     (λ c. search needs)
     (λ c. search needs)
     (λ c. search needs)
-    number-starts-requires
+    (λ c. search needs)
+    number-steps-requires
     numbers
     (λ c. sym (length-take-le _ _ (numbers (c .before))))
     note-actions-requires
