@@ -4,7 +4,7 @@ use Prim.Native.Nat.{ℕ, _+_, _≤_, _<_}
 use mathlib.Core.List.{List}
 use lib.ListN.{length, getD, take, drop}
 use borrow.Author.Tests.{le-leb, lt-leb}
-use Rattle.facts.specs.Read.{accepted, refused}
+use Rattle.facts.specs.Read.{Read, accepted, refused}
 use Rattle.facts.specs.ReadLaws.{not-refused, made, not-made, value-of, next-of}
 use Rattle.facts.specs.Fields.{nextOf, valueOf, Head, readCount, readHead, headAt, readEnd}
 use Rattle.facts.specs.FieldLaws.{count-read}
