@@ -1,16 +1,15 @@
 -- Laws of expanding as the code does it: the actions of a list one after the other, and the ways in which the operation can go.
 use mathlib.Core.Path.{_≡_, refl, sym, ap, subst, _∙_}
 use mathlib.Core.Bool.{Bool, true, false}
-use mathlib.Core.Option.{Option, none, some}
 use Prim.Native.Nat.{ℕ, suc, _+_, _*_, _-_, _≤_, _<_}
 use native.Mathlib.Numerals.{add-one}
 use native.Mathlib.Omega.{arith}
 use mathlib.Core.List.{List, [], _∷_}
-use lib.ListN.{length, getD, getElem?, take, drop, set, length-append, drop-of-length-le}
+use lib.ListN.{length, getD, take, drop, set, length-append, drop-of-length-le}
 use lib.Seq.{drop-cons}
 use borrow.Rule.Slice.PartMut.{putMid}
 use Rattle.facts.specs.Lists.{total, At}
-use Rattle.facts.specs.ListLaws.{look, found, at-length}
+use Rattle.facts.specs.ListLaws.{look, at-length}
 use Rattle.facts.specs.Read.{Read, accepted, refused, _>>=_}
 use Rattle.facts.specs.ReadLaws.{not-refused, through, not-made, bind-assoc}
 use Rattle.facts.specs.Partial.{Partial, holds, apply, partialAt, pastPartial}
@@ -20,11 +19,10 @@ use Rattle.facts.specs.Write.{over, Wrote}
 use Rattle.facts.specs.Run.{next as went, attempt, atMost}
 use Rattle.facts.specs.RunLaws.{attempt-next, attempt-blocked, not-blocked, list-long}
 use Rattle.taskfile.specs.declared.Task.{Task as Index}
-use Rattle.taskfile.specs.Task.{Action, Task, Walk, maxList, maxVariables, maxNodes, taskSum, Plan, WfAction}
+use Rattle.taskfile.specs.Task.{Action, Task, Walk, maxList, maxNodes, taskSum, Plan, WfAction}
 use Rattle.taskfile.specs.TaskFile.{readTask, checkTask, runTask}
 use Rattle.taskfile.specs.TaskReadLaws.{task-wf, task-limits}
 use Rattle.taskfile.specs.TaskLaws.{task-plan}
-use Rattle.taskfile.specs.WalkLaws.{passed-most}
 use Rattle.taskfile.specs.Index.{Ready}
 use Rattle.taskfile.specs.WalkInPlace.{incomingPlace, walkAt, performBy, performAt}
 use Rattle.taskfile.specs.AnswerLaws.{there as task-there}
@@ -35,7 +33,7 @@ use Rattle.compile.specs.ExtentLaws.{weighs}
 use Rattle.compile.specs.PutLaws.{Cut, Going, going-more, going-end}
 use Rattle.plans.specs.Carry.{actionList, expandFrom, expand}
 use Rattle.plans.specs.ListLaws.{total-take}
-use Rattle.plans.specs.LengthLaws.{expand-more, expand-limit}
+use Rattle.plans.specs.LengthLaws.{expand-limit}
 use Rattle.carry.specs.CarryFile.{expanded}
 use Rattle.carry.specs.InPlace.{Edges, Numbered, Writable, maxEntries, expansion, WroteIf, Prepared}
 use Rattle.carry.specs.NumberLaws.{actions-at, total-next, actionsOf, actions-are, steps-few}
@@ -49,24 +47,6 @@ attempt-state pre eff cost s {e} {c} h = go (holds pre s) refl
     go : (b : Bool) → holds pre s ≡ b → e ≡ apply eff s
     go true g = cc (attempt-next pre eff cost s g, h)
     go false g = absurd (not-blocked (sym (attempt-blocked pre eff cost s g) ∙ h))
-
--- ---- how long an expansion may be
-
-module _ {sizes : List ℕ} {actions : List Action} (wf : (a : ℕ) (x : Action) → At actions a x → WfAction sizes x) (few : length sizes ≤ maxVariables) where
-  -- Whatever its entries are, a list comes to at most 26 steps each: a walk passes each variable at most once.
-  abbrev Bounded : List ℕ → Type 0
-  Bounded list = (s : List ℕ) → Inside sizes s → length (expandFrom actions list s) ≤ maxEntries * length list
-
-  -- One entry more: it has an action or not.
-  bounded-entry : (a : ℕ) (list : List ℕ) → Bounded list → (o : Option Action) → getElem? actions a ≡ o → Bounded (a ∷ list)
-  bounded-entry a list on none e s inside = rw (e, expandFrom) (omega arith)
-  bounded-entry a list on (some x) e s inside =
-      let h = found actions a e in
-      omega (arith, expand-more actions list s h, passed-most (wf a x h) s inside, on (apply (x .eff) s) (apply-inside (x .eff) sizes s (wf a x h .eff .values) inside), few)
-
-  pub expand-bounded : (list : List ℕ) → Bounded list
-  expand-bounded [] s inside = omega arith
-  expand-bounded (a ∷ list) s inside = bounded-entry a list (expand-bounded list) (getElem? actions a) refl s inside
 
 -- ---- the actions of a list, one after the other
 
@@ -86,7 +66,7 @@ module _ {f sizes actions incoming firsts nodes first-step first-edge : List ℕ
 
   -- There is room for all entries.
   pub list-room : (list s : List ℕ) → Inside sizes s → {room : ℕ} → maxEntries * length list ≤ room → length (expandFrom actionsHere list s) ≤ room
-  list-room list s inside h = omega (arith, expand-bounded (λ a x h. p .well-formed h) (p .variables) list s inside)
+  list-room list s inside h = omega (arith, expand-limit {sizes = sizes} {actions = actionsHere} (λ a x h. p .well-formed h) (p .variables) list s inside)
 
   -- Each entry that is the number of an action has it.
   pub entry-there : {list : List ℕ} (s : List ℕ) {i at : ℕ} {own row : List ℕ} {first next : ℕ} → i < length list → getD list i 0 < length actions
@@ -162,7 +142,10 @@ module _ (f : List ℕ) {t : Task} (h : readTask f ≡ accepted t) (list : List 
 
   -- It has at most 26 steps for each action.
   pub expansion-few : {c : ℕ} → runTask f list ≡ accepted c → length (expansion f list) ≤ maxEntries * length list
-  expansion-few r = let ran = ran-plan r in rw (expansion-is ran) (expand-limit t (task-wf f h) (ran .plan) (task-limits f h))
+  unfolding expand
+  expansion-few r =
+      let wf = task-wf f h in
+      rw (expansion-is (ran-plan r)) (expand-limit {sizes = t .sizes} {actions = t .actions} (λ a x o. wf .actions o) (task-limits f h .variables) list (t .init) (wf .init))
 
 module _ (f : List ℕ) {i : Index} (ready : Ready f i) where
   -- the file's task

@@ -125,7 +125,7 @@ module _ (f : List ℕ) {t : Task} (h : readTask f ≡ accepted t) {list : List 
       let wf = task-wf f h in
       let back = contract-expand t wf list c p in
       onward _ h
-      (onward _ (list-fits maxProbeList (expand t list) (expand-fits t wf p (task-limits f h) few))
+      (onward _ (list-fits maxProbeList (expand t list) (expand-fits t wf (task-limits f h) list few))
       (onward _ (probe-plan (probeOf t) (expand t list) c .0 (forward t wf list c p))
       (onward _ (starts-within (t .actions) (expand t list) maxList 0 (rw back few)) (ap (λ (l : List ℕ). accepted (l, c)) back))))
 

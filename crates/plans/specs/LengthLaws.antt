@@ -1,27 +1,23 @@
 -- Laws of how long an expansion is: for each action its start, an edge for each node that its walk passes, and its end.
-use mathlib.Core.Path.{_≡_, refl, sym, ap, subst, _∙_}
+use mathlib.Core.Path.{_≡_, refl, ap, _∙_}
+use mathlib.Core.Option.{Option, none, some}
 use Prim.Native.Nat.{ℕ, suc, _+_, _*_, _≤_}
 use native.Mathlib.Nat.{le-trans, mul-suc, mul-le-mul-right}
 use native.Mathlib.Omega.{arith}
 use mathlib.Core.Bool.{Bool, true, false}
 use mathlib.Core.List.{List, [], _∷_}
 use lib.Dec.{eqb}
-use lib.ListN.{length, length-append}
-use borrow.Author.Tests.{lt-ltb}
-use Rattle.facts.specs.Read.{accepted}
+use lib.ListN.{length, getElem?, length-append}
 use Rattle.facts.specs.Lists.{At}
-use Rattle.facts.specs.ListLaws.{look, at-length}
+use Rattle.facts.specs.ListLaws.{look, found}
 use Rattle.facts.specs.Partial.{apply}
-use Rattle.facts.specs.Run.{runFrom, Reaches, ends, steps}
-use Rattle.facts.specs.RunLaws.{attempt-next}
-use Rattle.taskfile.specs.Task.{Node, Action, Task, edgeAt, walkFrom, walk, actionMove, actionPasses, maxList, Plan, WfTask, Limits}
+use Rattle.facts.specs.PartialLaws.{apply-inside}
+use Rattle.facts.specs.State.{Inside}
+use Rattle.taskfile.specs.Task.{Node, Action, Task, edgeAt, walkFrom, walk, maxList, maxVariables, WfAction, WfTask, Limits}
 use Rattle.taskfile.specs.WalkLaws.{passed-most}
-use Rattle.taskfile.specs.TaskLaws.{passes-at}
 use Rattle.probe.specs.Probe.{maxList as maxProbeList}
 use Rattle.compilation.specs.Compile.{edgeCount}
 use Rattle.plans.specs.Carry.{firstStep, pathSteps, actionList, expandFrom, expand}
-use Rattle.plans.specs.RunLaws.{action-moved}
-use Rattle.compilation.specs.AskLaws.{State, Scene, action-wf, next-state}
 
 -- ---- one action
 
@@ -54,54 +50,36 @@ expand-more actions {a} {x} list s h =
     let more = expandFrom actions list (apply (x .eff) s) in
     rw (look h, expandFrom) (length-append (actionList (firstStep actions a) x s) more ∙ ap (λ (k : ℕ). k + length more) (action-entries (firstStep actions a) x s))
 
--- ---- whole plans
+-- ---- whole lists
 
-module _ (t : Task) where
-  -- What a run of a plan that counts the nodes passed answers, where `before` were passed before it.
-  passed-from : (list s : List ℕ) (sum c i before : ℕ) {passed : ℕ} → Reaches (actionMove (t .actions)) (t .goal) sum list s c
-      → runFrom (length (t .actions)) (actionPasses (t .actions)) (t .goal) i before list s ≡ accepted passed
-      → before + length (expandFrom (t .actions) list s) ≡ 2 * length list + passed
-  unfolding runFrom
-  passed-from [] s sum c i before {passed} (ends g) h = let e : before ≡ passed = cc (rw g at h) in omega arith
-  passed-from (a ∷ list) s sum c i before (steps {paid = paid} m r) h =
-      let w = action-moved (t .actions) a s m in
-      let on = subst (λ (z : List ℕ). Reaches (actionMove (t .actions)) (t .goal) (sum + paid) list z c) (sym (w .applied .state)) r in
-      let does = passes-at (t .actions) s (w .element) ∙ attempt-next (w .x .pre) (w .x .eff) (walk (w .x) s .passed) s (w .applied .applies) in
-      let rest = rw (lt-ltb a (length (t .actions)) (at-length (w .element)), does) at h in
-      omega (arith, expand-more (t .actions) list s (w .element), passed-from list (apply (w .x .eff) s) (sum + paid) c (suc i) (before + walk (w .x) s .passed) on rest)
+module _ {sizes : List ℕ} {actions : List Action} (wf : (a : ℕ) (x : Action) → At actions a x → WfAction sizes x) where
+  -- No more entries for an action than there are variables, and two, whether or not the list is a plan: a walk passes each variable at most once.
+  abbrev Bounded : List ℕ → Type 0
+  Bounded list = (s : List ℕ) → Inside sizes s → length (expandFrom actions list s) ≤ (2 + length sizes) * length list
 
-  -- The expansion of a plan has two entries for each action, and one for each node that its run passes.
-  pub expand-passed : {list : List ℕ} {c passed : ℕ} → Plan t list c → runFrom (length (t .actions)) (actionPasses (t .actions)) (t .goal) 0 0 list (t .init) ≡ accepted passed
-      → length (expand t list) ≡ 2 * length list + passed
-  unfolding expand
-  expand-passed {list} {c} p h = omega (arith, passed-from list (t .init) 0 c 0 0 p h)
-
-  -- No more entries for an action than there are variables, and two.
-  most-from : (list s : List ℕ) (sum c : ℕ) → State t s → Reaches (actionMove (t .actions)) (t .goal) sum list s c → length (expandFrom (t .actions) list s) ≤ (2 + length (t .sizes)) * length list
-  most-from [] s sum c v p = omega arith
-  most-from (a ∷ list) s sum c v (steps {paid = paid} m r) =
-      let w = action-moved (t .actions) a s m in
-      let o : Scene t s a (w .x) = record { state = v; action = w .element } in
-      let on = subst (λ (z : List ℕ). Reaches (actionMove (t .actions)) (t .goal) (sum + paid) list z c) (sym (w .applied .state)) r in
+  -- One entry more: it has an action or not.
+  bounded-entry : (a : ℕ) (list : List ℕ) → Bounded list → (o : Option Action) → getElem? actions a ≡ o → Bounded (a ∷ list)
+  bounded-entry a list on none e s inside = rw (e, expandFrom) (omega arith)
+  bounded-entry a list on (some x) e s inside =
+      let h = found actions a e in
       omega (
         arith,
-        mul-suc (2 + length (t .sizes)) (length list),
-        passed-most (action-wf o) s (v .inside),
-        expand-more (t .actions) list s (w .element),
-        most-from list (apply (w .x .eff) s) (sum + paid) c (next-state o) on,
+        mul-suc (2 + length sizes) (length list),
+        passed-most (wf a x h) s inside,
+        expand-more actions list s h,
+        on (apply (x .eff) s) (apply-inside (x .eff) sizes s (wf a x h .eff .values) inside),
       )
 
-  module _ (wf : WfTask t) {list : List ℕ} {c : ℕ} (p : Plan t list c) where
-    -- A walk passes each variable at most once.
-    pub expand-most : length (expand t list) ≤ (2 + length (t .sizes)) * length list
-    unfolding expand
-    expand-most = most-from list (t .init) 0 c (record { wf = wf; inside = wf .init }) p
+  -- Whatever the list.
+  expand-most : (list : List ℕ) → Bounded list
+  expand-most [] s inside = omega arith
+  expand-most (a ∷ list) s inside = bounded-entry a list (expand-most list) (getElem? actions a) refl s inside
 
-    module _ (limits : Limits t) where
-      -- With at most 24 variables, at most 26 entries for each action.
-      pub expand-limit : length (expand t list) ≤ 26 * length list
-      expand-limit = le-trans expand-most (mul-le-mul-right (length list) (omega (arith, limits .variables)))
+  -- With at most 24 variables, at most 26 entries for each action.
+  pub expand-limit : length sizes ≤ maxVariables → (list s : List ℕ) → Inside sizes s → length (expandFrom actions list s) ≤ 26 * length list
+  expand-limit few list s inside = le-trans (expand-most list s inside) (mul-le-mul-right (length list) (omega arith))
 
-      -- The expansion of a plan of at most 256 actions is within the limit of probe lists.
-      pub expand-fits : length list ≤ maxList → length (expand t list) ≤ maxProbeList
-      expand-fits few = omega (arith, expand-limit)
+-- The expansion of a list of at most 256 actions is within the limit of probe lists.
+pub expand-fits : (t : Task) → WfTask t → Limits t → (list : List ℕ) → length list ≤ maxList → length (expand t list) ≤ maxProbeList
+unfolding expand
+expand-fits t wf limits list few = omega (arith, expand-limit {sizes = t .sizes} {actions = t .actions} (λ a x h. wf .actions h) (limits .variables) list (t .init) (wf .init))
