@@ -35,45 +35,49 @@ pub enum Followed {
 }
 
 // Follows a list from the initial state of an accepted file on, and notes the actions that it comes from.
-pub fn follow_plan(file: &[u8], task: Task, list: &[u16], actions: &mut [u16]) -> Followed
-    requires { ⌜ Ready (now file) task × (length (now actions) ≤ maxList) ⌝ }
-    ensures { λ r. ⌜ ContractsTo (now (file .entry)) (now (list .entry)) (now (actions .exit)) r ⌝ }
+pub fn follow_plan(
+    file: &[u8],
+    variables: usize,
+    actions: usize,
+    starts: &[usize],
+    firsts: &[usize],
+    nodes: &[usize],
+    list: &[u16],
+    plan: &mut [u16],
+) -> Followed
+    requires { ⌜ Ready (now file) (record { variables = variables; actions = actions; starts = now starts; firsts = now firsts; nodes = now nodes }) × (length (now plan) ≤ maxList) ⌝ }
+    ensures { λ r. ⌜ ContractsTo (now (file .entry)) (now (list .entry)) (now (plan .exit)) r ⌝ }
 {
-    let variables = task.variables;
-    let count = task.actions;
-    let starts = task.starts;
-    let firsts = task.firsts;
-    let nodes = task.nodes;
     let last = 1 + variables;
     let sizes = &file[1..last];
-    let action_at = &starts[..count];
+    let action_at = &starts[..actions];
     let mut first_step = [0; 33];
     let mut first_edge = [0; 64];
     number_steps(
         file,
         sizes,
         action_at,
-        &firsts,
-        &nodes,
+        firsts,
+        nodes,
         &mut first_step,
         &mut first_edge,
     );
     let mut action_of = [0; 576];
-    note_actions(&first_step[..count], &mut action_of);
+    note_actions(&first_step[..actions], &mut action_of);
     let mut state = initial(file, variables);
     follow_list(
         file,
         sizes,
         1 + 2 * variables,
         action_at,
-        &firsts,
-        &nodes,
+        firsts,
+        nodes,
         &first_step,
         &first_edge,
         &action_of,
         list,
         &mut state[..variables],
-        actions,
+        plan,
     )
 }
 

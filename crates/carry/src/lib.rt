@@ -6,9 +6,9 @@ mod starts;
 
 use crate::follow::Followed;
 use compile::Compiled;
-use facts::Checked;
 use facts::Ran;
 use facts::Refusal;
+use taskfile::Counted;
 use taskfile::Task;
 ghost use mathlib.Core.Path.{_≡_};
 ghost use Prim.Native.Nat.{_*_, _≤_};
@@ -37,20 +37,39 @@ pub fn expand(file: &[u8], list: &[u16], out: &mut [u16]) -> Carried
     ensures { λ r. ⌜ carriedAnswer r ≡ answerIn (length (now (out .entry))) (expanded (now (file .entry)) (now (list .entry))) ⌝ }
     ensures { λ r. ⌜ now (out .exit) ≡ bufferIn (now (out .entry)) (expanded (now (file .entry)) (now (list .entry))) ⌝ }
 {
-    let indexed = taskfile::index_of(file);
-    let answer = indexed.answer;
-    match answer {
-        Checked::Refused(why) => Carried::Refused(why),
-        Checked::Accepted => {
-            let task = indexed.task;
-            expand_in(file, task, list, out)
+    let mut starts = [0; 32];
+    let mut firsts = [0; 32];
+    let mut nodes = [0; 64];
+    let counted = taskfile::index_in(file, &mut starts, &mut firsts, &mut nodes);
+    match counted {
+        Counted::Refused(why) => Carried::Refused(why),
+        Counted::Actions(variables, actions) => {
+            expand_in(
+                file,
+                variables,
+                actions,
+                &starts,
+                &firsts,
+                &nodes,
+                list,
+                out,
+            )
         }
     }
 }
 
 // The same, of a file that is accepted: the probe list is written into a buffer of its own first, as a list may be refused at its end.
-fn expand_in(file: &[u8], task: Task, list: &[u16], out: &mut [u16]) -> Carried
-    requires { ⌜ Ready (now file) task ⌝ }
+fn expand_in(
+    file: &[u8],
+    variables: usize,
+    actions: usize,
+    starts: &[usize],
+    firsts: &[usize],
+    nodes: &[usize],
+    list: &[u16],
+    out: &mut [u16],
+) -> Carried
+    requires { ⌜ Ready (now file) (record { variables = variables; actions = actions; starts = now starts; firsts = now firsts; nodes = now nodes }) ⌝ }
     ensures { λ r. ⌜ carriedAnswer r ≡ answerIn (length (now (out .entry))) (expanded (now (file .entry)) (now (list .entry))) ⌝ }
     ensures { λ r. ⌜ now (out .exit) ≡ bufferIn (now (out .entry)) (expanded (now (file .entry)) (now (list .entry))) ⌝ }
 {
@@ -59,19 +78,49 @@ fn expand_in(file: &[u8], task: Task, list: &[u16], out: &mut [u16]) -> Carried
     }
     if list.len() <= SHORT_LIST {
         let mut few = [0; 832];
-        return expand_by(file, task, list, &mut few, out);
+        return expand_by(
+            file,
+            variables,
+            actions,
+            starts,
+            firsts,
+            nodes,
+            list,
+            &mut few,
+            out,
+        );
     }
     let mut many = [0; 6656];
-    expand_by(file, task, list, &mut many, out)
+    expand_by(
+        file,
+        variables,
+        actions,
+        starts,
+        firsts,
+        nodes,
+        list,
+        &mut many,
+        out,
+    )
 }
 
 // The same by a buffer that has room for the probe list.
-fn expand_by(file: &[u8], task: Task, list: &[u16], room: &mut [u16], out: &mut [u16]) -> Carried
-    requires { ⌜ Ready (now file) task × (length (now list) ≤ maxList) × (maxEntries * length (now list) ≤ length (now room)) ⌝ }
+fn expand_by(
+    file: &[u8],
+    variables: usize,
+    actions: usize,
+    starts: &[usize],
+    firsts: &[usize],
+    nodes: &[usize],
+    list: &[u16],
+    room: &mut [u16],
+    out: &mut [u16],
+) -> Carried
+    requires { ⌜ Ready (now file) (record { variables = variables; actions = actions; starts = now starts; firsts = now firsts; nodes = now nodes }) × (length (now list) ≤ maxList) × (maxEntries * length (now list) ≤ length (now room)) ⌝ }
     ensures { λ r. ⌜ carriedAnswer r ≡ answerIn (length (now (out .entry))) (expanded (now (file .entry)) (now (list .entry))) ⌝ }
     ensures { λ r. ⌜ now (out .exit) ≡ bufferIn (now (out .entry)) (expanded (now (file .entry)) (now (list .entry))) ⌝ }
 {
-    let listed = plan::put_plan(file, task, list, room);
+    let listed = plan::put_plan(file, variables, actions, starts, firsts, nodes, list, room);
     let answer = listed.answer;
     let written = listed.written;
     match answer {
@@ -92,39 +141,86 @@ pub fn contract(file: &[u8], list: &[u16], out: &mut [u16]) -> Carried
     ensures { λ r. ⌜ carriedAnswer r ≡ answerIn (length (now (out .entry))) (contracted (now (file .entry)) (now (list .entry))) ⌝ }
     ensures { λ r. ⌜ now (out .exit) ≡ bufferIn (now (out .entry)) (contracted (now (file .entry)) (now (list .entry))) ⌝ }
 {
-    let indexed = taskfile::index_of(file);
-    let answer = indexed.answer;
-    match answer {
-        Checked::Refused(why) => Carried::Refused(why),
-        Checked::Accepted => {
-            let task = indexed.task;
-            contract_in(file, task, list, out)
+    let mut starts = [0; 32];
+    let mut firsts = [0; 32];
+    let mut nodes = [0; 64];
+    let counted = taskfile::index_in(file, &mut starts, &mut firsts, &mut nodes);
+    match counted {
+        Counted::Refused(why) => Carried::Refused(why),
+        Counted::Actions(variables, actions) => {
+            contract_in(
+                file,
+                variables,
+                actions,
+                &starts,
+                &firsts,
+                &nodes,
+                list,
+                out,
+            )
         }
     }
 }
 
 // The same, of a file that is accepted: a plan is followed on the task; only where a list strays from all plans its refusal is looked for on the written
 // file.
-fn contract_in(file: &[u8], task: Task, list: &[u16], out: &mut [u16]) -> Carried
-    requires { ⌜ Ready (now file) task ⌝ }
+fn contract_in(
+    file: &[u8],
+    variables: usize,
+    actions: usize,
+    starts: &[usize],
+    firsts: &[usize],
+    nodes: &[usize],
+    list: &[u16],
+    out: &mut [u16],
+) -> Carried
+    requires { ⌜ Ready (now file) (record { variables = variables; actions = actions; starts = now starts; firsts = now firsts; nodes = now nodes }) ⌝ }
     ensures { λ r. ⌜ carriedAnswer r ≡ answerIn (length (now (out .entry))) (contracted (now (file .entry)) (now (list .entry))) ⌝ }
     ensures { λ r. ⌜ now (out .exit) ≡ bufferIn (now (out .entry)) (contracted (now (file .entry)) (now (list .entry))) ⌝ }
 {
-    let mut actions = [0; Task::MAX_LIST];
-    match follow::follow_plan(file, task, list, &mut actions) {
-        Followed::Astray => contract_written(file, list, out),
+    let mut plan = [0; Task::MAX_LIST];
+    match follow::follow_plan(
+        file,
+        variables,
+        actions,
+        starts,
+        firsts,
+        nodes,
+        list,
+        &mut plan,
+    ) {
+        Followed::Astray => contract_written(
+            file,
+            variables,
+            actions,
+            starts,
+            firsts,
+            nodes,
+            list,
+            out,
+        ),
         Followed::Plan(count, sum) => {
             if out.len() < count {
                 return Carried::Refused(Refusal::Short(count));
             }
-            plan::put_entries(&actions[..count], out);
+            plan::put_entries(&plan[..count], out);
             Carried::List(count, sum)
         }
     }
 }
 
 // The same, by a run of the list on the written file.
-fn contract_written(file: &[u8], list: &[u16], out: &mut [u16]) -> Carried
+fn contract_written(
+    file: &[u8],
+    variables: usize,
+    actions: usize,
+    starts: &[usize],
+    firsts: &[usize],
+    nodes: &[usize],
+    list: &[u16],
+    out: &mut [u16],
+) -> Carried
+    requires { ⌜ Ready (now file) (record { variables = variables; actions = actions; starts = now starts; firsts = now firsts; nodes = now nodes }) ⌝ }
     ensures { λ r. ⌜ carriedAnswer r ≡ answerIn (length (now (out .entry))) (contracted (now (file .entry)) (now (list .entry))) ⌝ }
     ensures { λ r. ⌜ now (out .exit) ≡ bufferIn (now (out .entry)) (contracted (now (file .entry)) (now (list .entry))) ⌝ }
 {
@@ -133,7 +229,17 @@ fn contract_written(file: &[u8], list: &[u16], out: &mut [u16]) -> Carried
         Compiled::Refused(why) => Carried::Refused(why),
         Compiled::Length(length) => match probe::run(&written[..length], list) {
             Ran::Refused(why) => Carried::Refused(why),
-            Ran::Sum(sum) => starts::contract_plan(file, list, sum, out),
+            Ran::Sum(sum) => starts::contract_plan(
+                file,
+                variables,
+                actions,
+                starts,
+                firsts,
+                nodes,
+                list,
+                sum,
+                out,
+            ),
         },
     }
 }

@@ -31,16 +31,20 @@ pub struct Listed {
 }
 
 // Runs a list of at most 256 actions and writes its probe list; what is written for a list that is refused says nothing.
-pub fn put_plan(file: &[u8], task: Task, list: &[u16], out: &mut [u16]) -> Listed
-    requires { ⌜ Ready (now file) task × (length (now list) ≤ maxList) × (maxEntries * length (now list) ≤ length (now out)) ⌝ }
+pub fn put_plan(
+    file: &[u8],
+    variables: usize,
+    actions: usize,
+    starts: &[usize],
+    firsts: &[usize],
+    nodes: &[usize],
+    list: &[u16],
+    out: &mut [u16],
+) -> Listed
+    requires { ⌜ Ready (now file) (record { variables = variables; actions = actions; starts = now starts; firsts = now firsts; nodes = now nodes }) × (length (now list) ≤ maxList) × (maxEntries * length (now list) ≤ length (now out)) ⌝ }
     ensures { λ r. ⌜ ranAnswer (r .answer) ≡ runTask (now (file .entry)) (now (list .entry)) ⌝ }
     ensures { λ r. ⌜ WroteIf (runTask (now (file .entry)) (now (list .entry))) (expansion (now (file .entry)) (now (list .entry))) (now (out .entry)) (now (out .exit)) (r .written) ⌝ }
 {
-    let variables = task.variables;
-    let actions = task.actions;
-    let starts = task.starts;
-    let firsts = task.firsts;
-    let nodes = task.nodes;
     let last = 1 + variables;
     let sizes = &file[1..last];
     let action_at = &starts[..actions];
@@ -50,8 +54,8 @@ pub fn put_plan(file: &[u8], task: Task, list: &[u16], out: &mut [u16]) -> Liste
         file,
         sizes,
         action_at,
-        &firsts,
-        &nodes,
+        firsts,
+        nodes,
         &mut first_step,
         &mut first_edge,
     );
@@ -64,8 +68,8 @@ pub fn put_plan(file: &[u8], task: Task, list: &[u16], out: &mut [u16]) -> Liste
         1 + 2 * variables,
         action_at,
         &incoming_at,
-        &firsts,
-        &nodes,
+        firsts,
+        nodes,
         &first_step,
         &first_edge,
         list,

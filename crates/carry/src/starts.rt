@@ -84,15 +84,31 @@ pub enum Starts {
 }
 
 // Writes the actions that a probe plan of an accepted file starts, in turn; the plan has this sum.
-pub fn contract_plan(file: &[u8], list: &[u16], sum: u32, out: &mut [u16]) -> Carried
-    requires { ⌜ ProbePlanOf (now file) (now list) sum ⌝ }
+pub fn contract_plan(
+    file: &[u8],
+    variables: usize,
+    actions: usize,
+    starts: &[usize],
+    firsts: &[usize],
+    nodes: &[usize],
+    list: &[u16],
+    sum: u32,
+    out: &mut [u16],
+) -> Carried
+    requires { ⌜ Ready (now file) (record { variables = variables; actions = actions; starts = now starts; firsts = now firsts; nodes = now nodes }) × ProbePlanOf (now file) (now list) sum ⌝ }
     ensures { λ r. ⌜ carriedAnswer r ≡ answerIn (length (now (out .entry))) (contracted (now (file .entry)) (now (list .entry))) ⌝ }
     ensures { λ r. ⌜ now (out .exit) ≡ bufferIn (now (out .entry)) (contracted (now (file .entry)) (now (list .entry))) ⌝ }
 {
-    let indexed = taskfile::index_of(file);
-    let task = indexed.task;
     let mut action_of = [0; 576];
-    note_starts(file, task, &mut action_of);
+    note_starts(
+        file,
+        variables,
+        actions,
+        starts,
+        firsts,
+        nodes,
+        &mut action_of,
+    );
     match count_starts(&action_of, list) {
         Starts::TooMany(i) => Carried::Refused(Refusal::Long(i)),
         Starts::Count(needed) => {
@@ -105,15 +121,18 @@ pub fn contract_plan(file: &[u8], list: &[u16], sum: u32, out: &mut [u16]) -> Ca
 }
 
 // Notes at each start's number 1 and the number of its action; at every other step's 0 stays.
-fn note_starts(file: &[u8], task: Task, action_of: &mut [u8])
-    requires { ⌜ Ready (now file) task × (now «action_of» ≡ replicate 576 0) ⌝ }
+fn note_starts(
+    file: &[u8],
+    variables: usize,
+    actions: usize,
+    starts: &[usize],
+    firsts: &[usize],
+    nodes: &[usize],
+    action_of: &mut [u8],
+)
+    requires { ⌜ Ready (now file) (record { variables = variables; actions = actions; starts = now starts; firsts = now firsts; nodes = now nodes }) × (now «action_of» ≡ replicate 576 0) ⌝ }
     ensures { λ r. ⌜ NotedIn (now (file .entry)) (now («action_of» .exit)) ⌝ }
 {
-    let variables = task.variables;
-    let actions = task.actions;
-    let starts = task.starts;
-    let firsts = task.firsts;
-    let nodes = task.nodes;
     let last = 1 + variables;
     let mut first_step = [0; 33];
     let mut first_edge = [0; 64];
@@ -121,8 +140,8 @@ fn note_starts(file: &[u8], task: Task, action_of: &mut [u8])
         file,
         &file[1..last],
         &starts[..actions],
-        &firsts,
-        &nodes,
+        firsts,
+        nodes,
         &mut first_step,
         &mut first_edge,
     );
