@@ -1,7 +1,6 @@
 -- Laws of the additive heuristic: a round for each fact, rounds until one changes nothing, the state's own facts, and the ways in which the
 -- operation can go.
 use mathlib.Core.Path.{_≡_, refl, sym, ap, ap₂, _∙_}
-use mathlib.Core.Logic.{_≢_}
 use mathlib.Core.Bool.{Bool, true, false}
 use Prim.Native.Nat.{ℕ, zero, suc, _<_}
 use native.Mathlib.Omega.{arith}
@@ -10,11 +9,11 @@ use lib.Dec.{eqb}
 use lib.ListN.{length, getD}
 use borrow.Author.Tests.{eq-eqb}
 use Rattle.facts.specs.Read.{Read, accepted, refused}
-use Rattle.facts.specs.Lists.{total, All}
+use Rattle.facts.specs.Lists.{All}
 use Rattle.facts.specs.Partial.{Partial}
 use Rattle.facts.specs.State.{Inside, checkState}
 use Rattle.facts.specs.PartialLaws.{inside-length, inside-at}
-use Rattle.estimate.specs.Number.{Number, exact, never, lesser, WithinCap, rank}
+use Rattle.estimate.specs.Number.{Number, exact, never, lesser, WithinCap}
 use Rattle.estimate.specs.NumberLaws.{sum-within, lesser-within}
 use Rattle.estimate.specs.Facts.{startNumber}
 use Rattle.estimate.specs.Rounds.{lowered, roundOf, settled, Lowering}

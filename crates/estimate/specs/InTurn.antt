@@ -4,7 +4,7 @@ use mathlib.Core.Path.{_≡_}
 use Prim.Native.Nat.{ℕ, _<_}
 use mathlib.Core.Bool.{Bool, false, _||_}
 use mathlib.Core.List.{List, [], _∷_}
-use lib.ListN.{length, getD}
+use lib.ListN.{getD}
 use Rattle.estimate.specs.Number.{Number, AtMost}
 use Rattle.estimate.specs.Facts.{startNumber}
 use Rattle.estimate.specs.Additive.{factNumber, Achiever, offerOf, lastNumbers}

@@ -2,13 +2,12 @@
 -- at least the last ones stay so, whoever offers; and numbers at most those of the start that no offer lowers are at most those of every round.
 use mathlib.Core.Path.{_≡_, refl, sym, ap, ap₂, _∙_, subst}
 use mathlib.Core.Bool.{Bool, true, false, _||_, true≢false}
-use Prim.Native.Nat.{ℕ, zero, suc, _≤_, _<_}
+use Prim.Native.Nat.{ℕ, _<_}
 use native.Mathlib.Decide.{decLe}
 use native.Mathlib.Nat.{lt-of-not-le}
-use native.Mathlib.Omega.{arith}
 use mathlib.Core.List.{List, [], _∷_}
 use lib.ListN.{length, getD}
-use Rattle.facts.specs.Lists.{total, All}
+use Rattle.facts.specs.Lists.{All}
 use Rattle.facts.specs.Partial.{Partial}
 use Rattle.facts.specs.WellFormed.{WfPartial}
 use Rattle.estimate.specs.Number.{Number, never, sum, lesser, AtMost}
@@ -16,11 +15,11 @@ use Rattle.estimate.specs.NumberLaws.{lesser-comm, at-most-refl, at-most
 use Rattle.estimate.specs.Facts.{startNumber}
 use Rattle.estimate.specs.Rounds.{Leads, stay, go-on}
 use Rattle.estimate.specs.RoundsLaws.{settled-leads, settled-fixed}
-use Rattle.estimate.specs.Additive.{factCount, listed, factNumber, has, sumFrom, Offer, offeredBy, offered, Achiever, offerOf, offersBy, WfAchiever, additiveRound, startNumbers, lastNumbers, additive}
+use Rattle.estimate.specs.Additive.{factCount, listed, factNumber, sumFrom, Offer, offeredBy, offered, Achiever, offerOf, offersBy, WfAchiever, additiveRound, startNumbers, lastNumbers, additive}
 use Rattle.estimate.specs.ListedLaws.{fact-none, fact-listed, facts-sum-same}
-use Rattle.estimate.specs.AdditiveLaws.{round-length, round-at, additive-lowering, Settling, settling-start, additive-sum}
+use Rattle.estimate.specs.AdditiveLaws.{round-length, round-at, additive-lowering, settling-start, additive-sum}
 use Rattle.estimate.specs.FallLaws.{Supported, falls-at-most, falls-offered-by}
-use Rattle.estimate.specs.Ranks.{rankNumber, Room, Roomy, HasRanks, Fell, afterOffer}
+use Rattle.estimate.specs.Ranks.{rankNumber, Roomy, HasRanks, Fell, afterOffer}
 use Rattle.estimate.specs.RanksLaws.{fell-none, fell-more}
 use Rattle.estimate.specs.InTurn.{afterOwn, InTurn, nobody, first, Below, lastNumber, Nearing}
 

@@ -88,14 +88,6 @@ pub listed-is : (sizes : List ℕ) (of : ℕ → ℕ → Number) (numbers : List
     → ((v d : ℕ) → d < getD sizes v 0 → of v d ≡ factNumber sizes numbers v d) → listed sizes of ≡ numbers
 listed-is sizes of numbers e h = facts-same sizes (listed sizes of) numbers (listed-length sizes of) e (λ v d l. fact-listed sizes of v d l ∙ h v d l)
 
--- numbers that agree on all facts are listed alike
-pub listed-same : (sizes : List ℕ) (of new : ℕ → ℕ → Number) → ((v d : ℕ) → d < getD sizes v 0 → of v d ≡ new v d) → listed sizes of ≡ listed sizes new
-listed-same sizes of new h = listed-is sizes of (listed sizes new) (listed-length sizes new) (λ v d l. h v d l ∙ sym (fact-listed sizes new v d l))
-
--- and only these
-pub listed-agree : (sizes : List ℕ) (of new : ℕ → ℕ → Number) → listed sizes of ≡ listed sizes new → (v d : ℕ) → d < getD sizes v 0 → of v d ≡ new v d
-listed-agree sizes of new e v d l = sym (fact-listed sizes of v d l) ∙ ap (λ (numbers : List Number). factNumber sizes numbers v d) e ∙ fact-listed sizes new v d l
-
 -- what holds of all that is given holds of each number listed
 module _ (P : Number → Type 0) (of : ℕ → ℕ → Number) (h : (v d : ℕ) → P (of v d)) where
   all-row : (v : ℕ) (values : List ℕ) (more : List Number) → All P more → All P (map (of v) values ++ more)

@@ -239,10 +239,6 @@ pub ranked-sum : {m n r : ℕ} → m < rank never → n < rank never → r ≡ m
 ranked-sum {m} {n} h k e =
     ap ranked e ∙ ranked-low (min (m + n) (rank over)) (omega arith) ∙ capped-min (m + n) ∙ sym (ap₂ sum (ranked-low m h) (ranked-low n k) ∙ sum-capped m n)
 
--- ranks of which one is below that of never are of the same number only if they are the same
-pub ranked-other : (m n : ℕ) → (m ≡ n → ⊥) → min m n < rank never → ranked m ≡ ranked n → ⊥
-ranked-other m n other l e = other (omega (arith, rank-ranked m, rank-ranked n, ap rank e))
-
 -- ---- the test for the same number
 
 pub same-refl : (a : Number) → same a a ≡ true
@@ -255,13 +251,6 @@ same-true never = elim [ never ↦ λ h. refl | over ↦ λ h. absurd (false≢t
 same-true over = elim [ never ↦ λ h. absurd (false≢true h) | over ↦ λ h. refl | exact y ↦ λ h. absurd (false≢true h) ]
 same-true (exact x) = elim [ never ↦ λ h. absurd (false≢true h) | over ↦ λ h. absurd (false≢true h) | exact y ↦ λ h. ap exact (eqb-true x y h) ]
 
-pub same-false : (a b : Number) → (a ≡ b → ⊥) → same a b ≡ false
-same-false a b other = go (same a b) refl
-  where
-    go : (t : Bool) → same a b ≡ t → t ≡ false
-    go true e = absurd (other (same-true a b e))
-    go false e = refl
-
 -- ---- the ways in which the code can go
 
 pub sum-never-first : {a : Number} (b : Number) → a ≡ never → never ≡ sum a b
@@ -269,22 +258,3 @@ sum-never-first b e = sym (ap (λ x. sum x b) e)
 
 pub sum-never-second : (a : Number) {b : Number} → b ≡ never → never ≡ sum a b
 sum-never-second a e = sym (ap (sum a) e ∙ sum-never a)
-
-pub never-sum : {a : Number} (b : Number) → a ≡ never → a ≡ sum a b
-never-sum b e = e ∙ sym (ap (λ x. sum x b) e)
-
-module _ {a b : Number} {x y : ℕ} (p : a ≡ exact x) (q : b ≡ exact y) where
-  pub sum-exact : x + y ≤ largest → exact (x + y) ≡ sum a b
-  sum-exact h = sym (ap₂ sum p q ∙ capped-exact (x + y) (x + y) refl h)
-
-  pub sum-over : largest < x + y → over ≡ sum a b
-  sum-over h = sym (ap₂ sum p q ∙ capped-over (x + y) h)
-
-  pub lesser-first : x ≤ y → exact x ≡ lesser a b
-  lesser-first h = let e : x ≡ min x y = omega arith in ap exact e ∙ sym (ap₂ lesser p q)
-
-  pub lesser-second : y ≤ x → exact y ≡ lesser a b
-  lesser-second h = let e : y ≡ min x y = omega arith in ap exact e ∙ sym (ap₂ lesser p q)
-
-  pub same-exact : eqb x y ≡ same a b
-  same-exact = sym (ap₂ same p q)

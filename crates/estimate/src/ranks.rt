@@ -53,7 +53,7 @@ pub fn sum_rank(a: u64, b: u64) -> u64
     ensures { λ r. ⌜ ranked r ≡ sum (ranked a) (ranked b) ⌝ }
 {
     if NEVER <= a {
-        return NEVER;
+        return NEVER; // never plus anything is never
     }
     if NEVER <= b {
         return NEVER;

@@ -1,10 +1,10 @@
 -- Laws of the bits of a map: the lowest standing one, those below a variable, those past the variables.
-use mathlib.Core.Path.{_≡_, refl, sym, ap, ap₂, _∙_}
+use mathlib.Core.Path.{_≡_, refl, sym, ap, _∙_}
 use Prim.Native.Nat.{ℕ, zero, suc, _+_, _-_, _*_, _/_, _%_, _^_, _≤_, _<_}
-use native.Mathlib.Nat.{pow-suc, add-mul, mul-assoc, mod-self, mul-le-mul-right, mod-lt, div-eq-of-lt, lt-of-not-le}
+use native.Mathlib.Nat.{mul-le-mul-right, mod-lt, div-eq-of-lt, lt-of-not-le}
 use native.Mathlib.Decide.{decLe}
 use native.Mathlib.Omega.{arith}
-use lib.Bits.{bitAnd, and-block, and-mask, and-self}
+use lib.Bits.{bitAnd}
 use lib.Count.{ones, trailingZeros, under}
 use lib.Pow.{split, pow-pos, pow-mono, shr-shr}
 use Rattle.facts.specs.Bits.{Lowest}

@@ -1,15 +1,15 @@
 -- Laws of the estimate of a probe file in place: the offer of a step, the offers of all, and the file that was read.
 use mathlib.Core.Path.{_≡_, refl, sym, ap, ap₂, _∙_, subst, subst₂}
 use mathlib.Core.Bool.{Bool, _||_}
-use Prim.Native.Nat.{ℕ, zero, suc, _+_, _*_, _≤_, _<_}
+use Prim.Native.Nat.{ℕ, _+_, _*_, _≤_, _<_}
 use native.Mathlib.Numerals.{add-one}
 use native.Mathlib.Omega.{arith}
 use mathlib.Core.List.{List, [], _∷_, map, map-map}
-use lib.ListN.{length, getD, take, drop, length-map, drop-of-length-le}
-use lib.Seq.{drop-cons, ext-getD, getD-take, length-take-le}
+use lib.ListN.{length, getD, take, drop, drop-of-length-le}
+use lib.Seq.{drop-cons}
 use Rattle.facts.specs.Read.{accepted, refused}
 use Rattle.facts.specs.Bytes.{Bytes}
-use Rattle.facts.specs.Lists.{All, At}
+use Rattle.facts.specs.Lists.{All}
 use Rattle.facts.specs.Partial.{Partial, partialAt, pastPartial}
 use Rattle.facts.specs.Fields.{wordAt}
 use Rattle.facts.specs.HeadLaws.{head-read}
@@ -26,10 +26,9 @@ use Rattle.estimate.specs.RanksLaws.{roomy}
 use Rattle.estimate.specs.FallLaws.{Supported, constant-supported, all-supported}
 use Rattle.estimate.specs.InTurn.{InTurn}
 use Rattle.estimate.specs.InTurnLaws.{Turning, turning-more, turning-end}
-use Rattle.probe.specs.Probe.{Step, Probe, WfStep, WfProbe}
-use Rattle.probe.specs.ProbeFile.{readProbe}
+use Rattle.probe.specs.Probe.{Step, WfStep}
 use Rattle.probe.specs.ProbeLaws.{probe-lines, probe-wf}
-use Rattle.probe.specs.InPlace.{probeAt, stepAt, Within, Located}
+use Rattle.probe.specs.InPlace.{probeAt, stepAt, Located}
 use Rattle.probe.specs.IndexLaws.{not-read, steps-in-place, accepted-probe, starts, run-within}
 use Rattle.probe.specs.Estimate.{stepAchiever, probeEstimate, estimateProbe, achieverAt, afterStep, Ready, InPlace}
 

@@ -1,6 +1,5 @@
 -- `task::rounds::offer_action` meets its contract: the precondition's sum and the least cost are offered to the effect, and never to none. Assumes nothing.
 use mathlib.Core.Path.{sym, ap₂, _∙_}
-use native.Mathlib.Omega.{arith}
 use denote.Ref.{now}
 use Rattle.facts.specs.InPlaceLaws.{past-is}
 use Rattle.estimate.specs.Number.{sum}
