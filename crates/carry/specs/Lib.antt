@@ -8,6 +8,7 @@ pub mod SameSumLaws
 pub mod SameSum
 -- What the code is promised by, in place.
 pub mod InPlace
+pub mod Follow
 -- Laws of the code.
 pub mod AnswerLaws
 pub mod ActionLaws
@@ -15,3 +16,4 @@ pub mod NumberLaws
 pub mod ExpandLaws
 pub mod NoteLaws
 pub mod ContractLaws
+pub mod FollowLaws

@@ -1,4 +1,5 @@
 // Plans carried across between a task file and the probe file written from it, at the same sum.
+mod follow;
 mod path;
 mod plan;
 mod starts;

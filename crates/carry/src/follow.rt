@@ -1,0 +1,177 @@
+// A probe list followed in place on the task: the entries of each action are held against the walk of its diagram.
+use facts::Held;
+use facts::number::byte_at;
+use facts::number::offset_at;
+use facts::number::offset_within;
+use facts::partial::apply_at;
+use facts::partial::held_at;
+use facts::partial::holds_at;
+use taskfile::walk::diagram_past;
+use taskfile::walk::edge_for;
+ghost use mathlib.Core.Path.{_≡_};
+ghost use mathlib.Core.Bool.{false};
+ghost use Prim.Native.Nat.{_+_, _≤_, _<_};
+ghost use lib.ListN.{length, getD};
+ghost use Rattle.facts.specs.State.{Inside};
+ghost use Rattle.taskfile.specs.WalkInPlace.{nodeCount, maxPassed};
+ghost use Rattle.carry.specs.Follow.{Traced, PathTo, ActionTo, Followable, PlanTo};
+
+// Where the entries of an action end in a list, and what it costs; or the list has others.
+pub enum Path {
+    To(usize, u32),
+    Astray,
+}
+
+// How many actions a list comes from, and their sum; or it is no plan.
+pub enum Followed {
+    Plan(usize, u32),
+    Astray,
+}
+
+// Follows a list from a state on, and notes the actions that it comes from. `first_step` has the number of each action's start, and past the last action the
+// number of steps; `first_edge` has that of each node's first edge; `action_of` has at the number of each start 1 and the number of its action.
+pub fn follow_list(
+    file: &[u8],
+    sizes: &[u8],
+    goal: usize,
+    action_at: &[usize],
+    first_node: &[usize],
+    node_at: &[usize],
+    first_step: &[usize],
+    first_edge: &[usize],
+    action_of: &[u8],
+    list: &[u16],
+    state: &mut [u8],
+    actions: &mut [u16],
+) -> Followed
+    requires { ⌜ Followable (now file) (now sizes) (now «action_at») (now «first_node») (now «node_at») (now «first_step») (now «first_edge») (now «action_of») × Inside (now sizes) (now state) ⌝ }
+    requires { ⌜ (length (now «node_at») ≤ length (now «first_edge»)) × (length (now «action_at») < length (now «first_step»)) × (length (now actions) ≤ 256) ⌝ }
+    ensures { λ r. ⌜ PlanTo (now (file .entry)) (now (sizes .entry)) goal (now («action_at» .entry)) (now («first_node» .entry)) (now («node_at» .entry)) (now (list .entry)) (now (state .entry)) (now (actions .exit)) r ⌝ }
+{
+    let mut sum: u32 = 0;
+    let mut count: usize = 0;
+    let mut i: usize = 0;
+    while i < list.len() {
+        let action = byte_at(action_of, list[i] as usize) as usize;
+        if action == 0 {
+            return Followed::Astray;
+        }
+        if actions.len() <= count {
+            return Followed::Astray;
+        }
+        let number = action - 1;
+        let first = offset_within(first_node, number, node_at.len());
+        let answer = follow_action(
+            file,
+            sizes,
+            offset_at(action_at, number),
+            &node_at[first..],
+            &first_edge[first..],
+            offset_at(first_step, action) - 1,
+            state,
+            list,
+            i,
+        );
+        let Path::To(next, cost) = answer else {
+            return Followed::Astray;
+        };
+        actions[count] = number as u16;
+        count += 1;
+        sum += cost;
+        i = next;
+    }
+    if holds_at(file, goal, state) {
+        return Followed::Plan(count, sum);
+    }
+    Followed::Astray
+}
+
+// Follows the action at an offset, whose start is the list's entry `from`: its precondition holds, its walk's entries come next, and its effect is set.
+fn follow_action(
+    file: &[u8],
+    sizes: &[u8],
+    at: usize,
+    nodes: &[usize],
+    first_edge: &[usize],
+    end: usize,
+    state: &mut [u8],
+    list: &[u16],
+    from: usize,
+) -> Path
+    requires { ⌜ Traced (now file) (now sizes) at (now nodes) (now «first_edge») end (now state) (1 + getD (now list) from 0) × (from < length (now list)) ⌝ }
+    ensures { λ r. ⌜ ActionTo (now (file .entry)) (now (sizes .entry)) at (now (nodes .entry)) (now (state .entry)) (now (list .entry)) from (now (state .exit)) r ⌝ }
+{
+    match held_at(file, at, state) {
+        Held::Not => Path::Astray,
+        Held::Ends(effect) => {
+            let diagram = diagram_past(file, effect);
+            let path = follow_path(
+                file,
+                sizes,
+                at,
+                nodes,
+                diagram.count,
+                first_edge,
+                end,
+                state,
+                list,
+                from,
+            );
+            let Path::To(next, cost) = path else {
+                return Path::Astray;
+            };
+            apply_at(file, effect, state);
+            let incoming = diagram.incoming;
+            Path::To(next, incoming + cost)
+        }
+    }
+}
+
+// Follows the walk of the same action, which has `count` nodes: past the start the entry of an edge for each node passed, and the end.
+fn follow_path(
+    file: &[u8],
+    sizes: &[u8],
+    at: usize,
+    nodes: &[usize],
+    count: usize,
+    first_edge: &[usize],
+    end: usize,
+    state: &[u8],
+    list: &[u16],
+    from: usize,
+) -> Path
+    requires { ⌜ Traced (now file) (now sizes) at (now nodes) (now «first_edge») end (now state) (1 + getD (now list) from 0) × (count ≡ nodeCount (now file) at) × (count ≤ maxPassed) × (from < length (now list)) ⌝ }
+    ensures { λ r. ⌜ PathTo (now (file .entry)) (now (sizes .entry)) at (now (nodes .entry)) (now (state .entry)) (now (list .entry)) from r ⌝ }
+{
+    let mut cost: u32 = 0;
+    let mut i = 1 + from;
+    let mut k: usize = 1;
+    while k <= count {
+        let node = offset_at(nodes, k - 1);
+        let value = byte_at(state, byte_at(file, node) as usize);
+        if strays(list, i, offset_at(first_edge, k - 1) + value as usize) {
+            return Path::Astray;
+        }
+        let edge = edge_for(file, node, value);
+        cost += edge.weight;
+        i += 1;
+        k = edge.target;
+    }
+    if strays(list, i, end) {
+        return Path::Astray;
+    }
+    Path::To(i + 1, cost)
+}
+
+// Whether a list has another step at an index than this one, or none.
+fn strays(list: &[u16], i: usize, step: usize) -> bool
+    ensures { λ r. ⌜ (r ≡ false → (i < length (now (list .entry))) × (getD (now (list .entry)) i 0 ≡ step)) ⌝ }
+{
+    if list.len() <= i {
+        return true;
+    }
+    if list[i] as usize == step {
+        return false;
+    }
+    true
+}
