@@ -17,7 +17,7 @@ use Rattle.carry.specs.SameSumLaws.{answer-in, buffer-in}
 -- ---- what is written one entry after the other
 
 -- One entry is written straight after what is written.
-wrote-entry : {entries before now : List ℕ} {at : ℕ} (x : ℕ) → length entries < length before → Wrote entries before now at → Wrote (entries ++ (x ∷ [])) before (set now at x) (at + 1)
+pub wrote-entry : {entries before now : List ℕ} {at : ℕ} (x : ℕ) → length entries < length before → Wrote entries before now at → Wrote (entries ++ (x ∷ [])) before (set now at x) (at + 1)
 unfolding over
 wrote-entry {entries} {before} {now} {at} x l w =
     let place : length entries ≡ at = sym (w .count) in

@@ -6,7 +6,7 @@ use lib.ListN.{length, getD, take, drop}
 use Rattle.facts.specs.Lists.{total}
 use Rattle.facts.specs.Read.{accepted}
 use Rattle.facts.specs.State.{Inside}
-use Rattle.facts.specs.Partial.{partialAt}
+use Rattle.facts.specs.Partial.{apply, partialAt}
 use Rattle.facts.specs.Run.{next, runFrom}
 use Rattle.taskfile.specs.Task.{Node, maxWeight, WfAction}
 use Rattle.taskfile.specs.WalkInPlace.{nodeCount, wayFrom, maxWalk, performAt, moveAt}
@@ -54,6 +54,7 @@ PathTo f sizes at offsets s list from Astray = Unit {0}
 pub record Action-passed (f sizes : List ℕ) (at : ℕ) (offsets s list : List ℕ) (from : ℕ) (after : List ℕ) (i cost : ℕ) : Type 0 where
   pub passed : Passed f sizes at offsets s list from i
   pub moves : next after cost ≡ performAt f at offsets s
+  pub state : after ≡ apply (actionIn f sizes at offsets .eff) s
   pub small : cost ≤ maxWalk
 
 abbrev pub ActionTo : List ℕ → List ℕ → ℕ → List ℕ → List ℕ → List ℕ → ℕ → List ℕ → Path → Type 0

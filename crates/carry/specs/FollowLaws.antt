@@ -1,5 +1,5 @@
 -- Laws of following a probe list in place: the path of one action entry by entry, then the actions one after the other.
-use mathlib.Core.Path.{_≡_, refl, sym, ap, ap₂, subst, _∙_}
+use mathlib.Core.Path.{_≡_, refl, sym, ap, ap₂, subst₂, _∙_}
 use mathlib.Core.Bool.{Bool, true, false}
 use mathlib.Core.Option.{Option, none, some}
 use Prim.Native.Nat.{ℕ, zero, suc, _+_, _*_, _-_, _≤_, _<_}
@@ -8,29 +8,38 @@ use native.Mathlib.Omega.{arith}
 use mathlib.Core.List.{List, [], _∷_, _++_, append-nil, append-assoc}
 use lib.Dec.{eqb}
 use lib.ListN.{length, getD, take, drop, set, length-set, drop-of-length-le}
-use lib.Seq.{drop-cons, take-at}
+use lib.Seq.{drop-cons, length-take-le}
 use borrow.Author.Tests.{eqb-true, lt-ltb}
-use Rattle.facts.specs.Lists.{total, At}
+use Rattle.facts.specs.Lists.{total}
 use Rattle.facts.specs.ListLaws.{look}
 use Rattle.facts.specs.Read.{accepted}
 use Rattle.facts.specs.Write.{Wrote, over}
 use Rattle.facts.specs.Partial.{Partial, holds, apply, partialAt}
-use Rattle.facts.specs.PartialLaws.{apply-inside}
+use Rattle.facts.specs.PartialLaws.{apply-inside, length-apply}
 use Rattle.facts.specs.Fields.{wordAt}
 use Rattle.facts.specs.State.{Inside}
-use Rattle.facts.specs.Run.{Move, next, runFrom}
-use Rattle.taskfile.specs.Task.{Action, WfAction, edgeAt}
-use Rattle.taskfile.specs.WalkInPlace.{nodeCount, wayFrom, maxWalk, performAt, moveAt}
+use Rattle.facts.specs.Run.{runFrom}
+use Rattle.facts.specs.RunLaws.{list-fits}
+use Rattle.taskfile.specs.declared.Task.{Task as Index}
+use Rattle.taskfile.specs.Task.{Action, WfAction, maxList}
+use Rattle.taskfile.specs.TaskFile.{runTask}
+use Rattle.taskfile.specs.Index.{Ready}
+use Rattle.taskfile.specs.AnswerLaws.{there as task-there, starts, run-is}
+use Rattle.taskfile.specs.WalkInPlace.{nodeCount, wayFrom, maxWalk, moveBy, moveAt, runList}
 use Rattle.taskfile.specs.WalkInPlaceLaws.{edge-is, turn-up, turn-none}
 use Rattle.taskfile.specs.PartsInPlace.{actionIn, actionsIn}
-use Rattle.taskfile.specs.PartsInPlaceLaws.{nodes-long}
+use Rattle.taskfile.specs.PartsInPlaceLaws.{nodes-long, reads}
 use Rattle.compilation.specs.Compile.{edgeCount, stepCount}
-use Rattle.plans.specs.Carry.{pathSteps, firstStep, expandFrom, startedBy}
+use Rattle.plans.specs.Carry.{pathSteps, firstStep, actionList, expandFrom, startedBy}
 use Rattle.plans.specs.ListLaws.{total-take}
 use Rattle.plans.specs.PathLaws.{steps-at, steps-end}
-use Rattle.carry.specs.InPlace.{Noted}
+use Rattle.carry.specs.CarryFile.{contracted}
+use Rattle.carry.specs.InPlace.{Noted, expansion}
+use Rattle.carry.specs.SameSumLaws.{over-front, expanded-back}
+use Rattle.carry.specs.AnswerLaws.{wrote-entry}
+use Rattle.carry.specs.ExpandLaws.{actions-at, expand-plan, entries-are}
 use Rattle.carry.specs.ActionLaws.{nodesAt, edgePlace, Visited}
-use Rattle.carry.specs.Follow.{Edged, Traced, Passed, Path-passed}
+use Rattle.carry.specs.Follow.{Edged, Traced, Followable, Path-passed, Action-passed, Plan-followed}
 
 -- ---- the path of one action
 
@@ -97,3 +106,142 @@ module _ {f sizes : List ℕ} {at : ℕ} {offsets s list : List ℕ} {from : ℕ
           cost-is = omega (arith, p .paid, turn-none f offsets (nodeCount f at) s k past .0);
           small = omega (arith, p .small, p .high);
         }
+
+-- ---- which action a start belongs to
+
+-- the action with this number starts with step r, where the first of all actions has the number k and starts with step `first`
+record Starts-with (first k : ℕ) (actions : List Action) (r number : ℕ) : Type 0 where
+  a : ℕ
+  is : number ≡ k + a
+  below : a < length actions
+  step : r ≡ first + firstStep actions a
+
+-- A start is that of its action: the first of all, or a later one.
+started-one : (first k : ℕ) (x : Action) (actions : List Action) (r : ℕ) {q : ℕ} → (startedBy (first + stepCount x) (suc k) actions r ≡ some q → Starts-with (first + stepCount x) (suc k) actions r q)
+    → (b : Bool) → eqb r first ≡ b → startedBy first k (x ∷ actions) r ≡ some q → Starts-with first k (x ∷ actions) r q
+started-one first k x actions r {q} on true e h =
+    let z : _≡_ {A = Option ℕ} (some k) (some q) = rw (e, startedBy) at h in
+    let same : k ≡ q = cc in
+    record { a = 0; is = omega arith; below = omega arith; step = omega (arith, eqb-true r first e) }
+started-one first k x actions r on false e h =
+    let later = on (rw (e, startedBy) at h) in
+    record { a = suc (later .a); is = omega (arith, later .is); below = omega (arith, later .below); step = omega (arith, later .step) }
+
+started-by : (first k : ℕ) (actions : List Action) (r : ℕ) {q : ℕ} → startedBy first k actions r ≡ some q → Starts-with first k actions r q
+started-by first k [] r {q} h = let z : _≡_ {A = ℕ} 0 1 = cc in absurd (omega arith)
+started-by first k (x ∷ actions) r h = started-one first k x actions r (started-by (first + stepCount x) (suc k) actions r) (eqb r first) refl h
+
+-- What is noted at a step that is a start.
+pub noted-start : {actions : List Action} {action-of : List ℕ} → Noted actions action-of → {r action : ℕ} → action ≡ getD action-of r 0 → (action ≡ 0 → ⊥) → (action - 1 < length actions) × (r ≡ firstStep actions (action - 1))
+noted-start {actions} {action-of} n {r} {action} e some-start = go (startedBy 0 0 actions r) refl
+  where
+    go : (o : Option ℕ) → startedBy 0 0 actions r ≡ o → (action - 1 < length actions) × (r ≡ firstStep actions (action - 1))
+    go none h = absurd (some-start (e ∙ n .notes r ∙ rw h))
+    go (some q) h =
+        let s = started-by 0 0 actions r h in
+        let number : getD action-of r 0 ≡ suc q = n .notes r ∙ rw h in
+        let same : action - 1 ≡ s .a = omega (arith, e, number, s .is) in
+        rw same (s .below, omega (arith, s .step))
+
+-- ---- the actions of a list, one after the other
+
+-- the actions in place
+abbrev placed : List ℕ → List ℕ → List ℕ → List ℕ → List ℕ → List Action
+placed f sizes actions firsts nodes = actionsIn f sizes actions firsts nodes 0 (length actions)
+
+-- What an action is followed by, in a state inside the domains.
+pub traced-there : {f sizes actions firsts nodes first-step first-edge action-of s : List ℕ} → Followable f sizes actions firsts nodes first-step first-edge action-of → Inside sizes s
+    → {a at end r : ℕ} {own own-edge : List ℕ} → a < length actions → at ≡ getD actions a 0 → own ≡ drop (getD firsts a 0) nodes → own-edge ≡ drop (getD firsts a 0) first-edge
+    → end ≡ getD first-step (1 + a) 0 - 1 → r ≡ firstStep (placed f sizes actions firsts nodes) a → Traced f sizes at own own-edge end s (1 + r)
+traced-there p inside {a} known e o oe n r = rw (e, o, oe, n, r) (record { well-formed = p .well-formed a known; inside = inside; edged = p .edged a known })
+
+-- The first i entries of the list come from actions that lead from the state `from` to s with this sum, and that are written at the front of a buffer.
+pub record Following (f sizes actions firsts nodes : List ℕ) (goal : Partial) (list from before now s : List ℕ) (i sum count : ℕ) : Type 0 where
+  pub done : List ℕ
+  pub wrote : Wrote done before now count
+  pub same : length now ≡ length before
+  pub room : count ≤ length before
+  pub within : i ≤ length list
+  pub small : sum ≤ maxWalk * count
+  pub inside : Inside sizes s
+  pub keeps : length s ≡ length from
+  pub runs : (rest : List ℕ) → runFrom (length actions) (moveAt f actions firsts nodes) goal 0 0 (done ++ rest) from ≡ runFrom (length actions) (moveAt f actions firsts nodes) goal count sum rest s
+  pub comes : (rest : List ℕ) → drop i list ≡ expandFrom (placed f sizes actions firsts nodes) rest s → list ≡ expandFrom (placed f sizes actions firsts nodes) (done ++ rest) from
+
+module _ {f sizes actions firsts nodes : List ℕ} {goal : Partial} {list : List ℕ} where
+  -- At first none do.
+  pub following-start : (from out : List ℕ) → Inside sizes from → Following f sizes actions firsts nodes goal list from out out from 0 0 0
+  unfolding over
+  following-start from out inside = record {
+    done = [];
+    wrote = record { count = refl; buffer = refl };
+    same = refl;
+    room = omega arith;
+    within = omega arith;
+    small = omega arith;
+    inside = inside;
+    keeps = refl;
+    runs = λ rest. refl;
+    comes = λ rest h. h;
+  }
+
+  module _ {from before now s : List ℕ} {i sum count : ℕ} (g : Following f sizes actions firsts nodes goal list from before now s i sum count) where
+    -- One action more, whose entries come next.
+    pub following-next : {a at next′ cost : ℕ} {own after : List ℕ} → a < length actions → at ≡ getD actions a 0 → own ≡ drop (getD firsts a 0) nodes → i < length list → getD list i 0 ≡ firstStep (placed f sizes actions firsts nodes) a
+        → WfAction sizes (actionIn f sizes (getD actions a 0) (drop (getD firsts a 0) nodes)) → count < length before → Action-passed f sizes at own s list i after next′ cost
+        → Following f sizes actions firsts nodes goal list from before (set now count a) after next′ (sum + cost) (count + 1)
+    unfolding moveBy runFrom
+    following-next {a} {at} {next′} {cost} {own} {after} known e o l start wf room passed =
+        let p = subst₂ (λ (k : ℕ) (z : List ℕ). Action-passed f sizes k z s list i after next′ cost) e o passed in
+        let element = actions-at f sizes actions firsts nodes a (length actions) known in
+        let x = actionIn f sizes (getD actions a 0) (drop (getD firsts a 0) nodes) in
+        let one : 1 + getD list i 0 ≡ suc (firstStep (placed f sizes actions firsts nodes) a) = omega (arith, start) in
+        record {
+          done = g .done ++ (a ∷ []);
+          wrote = wrote-entry a (omega (arith, g .wrote .count)) (g .wrote);
+          same = length-set now count a ∙ g .same;
+          room = omega arith;
+          within = p .passed .within;
+          small = omega (arith, g .small, p .small);
+          inside = rw (p .state) (apply-inside (x .eff) sizes s (wf .eff .values) (g .inside));
+          keeps = ap length (p .state) ∙ length-apply (x .eff) s ∙ g .keeps;
+          runs = λ rest.
+              ap (λ (z : List ℕ). runFrom (length actions) (moveAt f actions firsts nodes) goal 0 0 z from) (append-assoc (g .done) (a ∷ []) rest)
+              ∙ g .runs (a ∷ rest)
+              ∙ rw (lt-ltb a (length actions) known, ← p .moves, add-one count);
+          comes = λ rest h.
+              let path : drop (suc i) list ≡ pathSteps (suc (firstStep (placed f sizes actions firsts nodes) a)) 1 (x .nodes) 1 s ++ expandFrom (placed f sizes actions firsts nodes) rest (apply (x .eff) s) =
+              p .passed .entries ∙ ap₂ (λ (k : ℕ) (z : List ℕ). pathSteps k 1 (x .nodes) 1 s ++ z) one (h ∙ ap (expandFrom (placed f sizes actions firsts nodes) rest) (p .state)) in
+              let whole : expandFrom (placed f sizes actions firsts nodes) (a ∷ rest) s ≡ actionList (firstStep (placed f sizes actions firsts nodes) a) x s ++ expandFrom (placed f sizes actions firsts nodes) rest (apply (x .eff) s) = rw (look element, expandFrom) in
+              g .comes (a ∷ rest) (drop-cons list i 0 l ∙ ap₂ (λ (r : ℕ) (z : List ℕ). r ∷ z) start path ∙ sym whole)
+              ∙ ap (λ (z : List ℕ). expandFrom (placed f sizes actions firsts nodes) z from) (sym (append-assoc (g .done) (a ∷ []) rest));
+        }
+
+    -- The list ends where the goal holds.
+    pub following-end : {place : ℕ} → goal ≡ partialAt f place → length list ≤ i → true ≡ holds goal s → Plan-followed f sizes place actions firsts nodes list from now count sum
+    unfolding runFrom
+    following-end {place} e l met =
+        let front : take count now ≡ g .done = ap₂ (λ (k : ℕ) (z : List ℕ). take k z) (g .wrote .count) (g .wrote .buffer) ∙ over-front (g .done) before in
+        let all = append-nil (g .done) in
+        record {
+          within = omega (arith, g .room, g .same);
+          comes = g .comes [] (drop-of-length-le list l) ∙ ap (λ (z : List ℕ). expandFrom (placed f sizes actions firsts nodes) z from) (all ∙ sym front);
+          runs =
+              rw (← e, front)
+              (ap (λ (z : List ℕ). runFrom (length actions) (moveAt f actions firsts nodes) goal 0 0 z from) (sym all) ∙ g .runs [] ∙ rw (← met));
+        }
+
+-- ---- a list that is followed to its end
+
+module _ (f : List ℕ) {i : Index} (ready : Ready f i) where
+  -- It is contracted to the actions that it comes from.
+  pub followed-contracts : {sizes state list out : List ℕ} {n sum : ℕ} → sizes ≡ task-there f ready .task .sizes → state ≡ take (i .variables) (drop (1 + i .variables) f) → length out ≤ maxList
+      → Plan-followed f sizes (1 + 2 * i .variables) (take (i .actions) (i .starts)) (i .firsts) (i .nodes) list state out n sum → (n ≤ length out) × (contracted f list ≡ accepted (take n out, sum))
+  unfolding runList
+  followed-contracts {sizes} {state} {list} {out} {n} {sum} e s few p =
+      let plan = take n out in
+      let short : length plan ≤ maxList = omega (arith, length-take-le n out (p .within), p .within) in
+      let runs : runTask f plan ≡ accepted sum = run-is f ready plan ∙ rw (list-fits maxList plan short, ← s) (p .runs) in
+      let init = s ∙ starts f ready .init in
+      let is : list ≡ expansion f plan = p .comes ∙ entries-are f ready (record { sum = sum; runs = runs }) e init in
+      (p .within, ap (contracted f) is ∙ expanded-back f plan (expand-plan f (reads f ready) plan runs))

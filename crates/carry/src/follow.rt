@@ -13,6 +13,7 @@ ghost use mathlib.Core.Bool.{false};
 ghost use Prim.Native.Nat.{_+_, _≤_, _<_};
 ghost use lib.ListN.{length, getD};
 ghost use Rattle.facts.specs.State.{Inside};
+ghost use Rattle.taskfile.specs.Task.{maxList};
 ghost use Rattle.taskfile.specs.WalkInPlace.{nodeCount, maxPassed};
 ghost use Rattle.carry.specs.Follow.{Traced, PathTo, ActionTo, Followable, PlanTo};
 
@@ -45,7 +46,7 @@ pub fn follow_list(
     actions: &mut [u16],
 ) -> Followed
     requires { ⌜ Followable (now file) (now sizes) (now «action_at») (now «first_node») (now «node_at») (now «first_step») (now «first_edge») (now «action_of») × Inside (now sizes) (now state) ⌝ }
-    requires { ⌜ (length (now «node_at») ≤ length (now «first_edge»)) × (length (now «action_at») < length (now «first_step»)) × (length (now actions) ≤ 256) ⌝ }
+    requires { ⌜ (length (now «node_at») ≡ length (now «first_edge»)) × (length (now actions) ≤ maxList) ⌝ }
     ensures { λ r. ⌜ PlanTo (now (file .entry)) (now (sizes .entry)) goal (now («action_at» .entry)) (now («first_node» .entry)) (now («node_at» .entry)) (now (list .entry)) (now (state .entry)) (now (actions .exit)) r ⌝ }
 {
     let mut sum: u32 = 0;
