@@ -138,6 +138,11 @@ module _ (action-of : List ℕ) where
 
 -- ---- the ways in which contracting can go
 
+-- A file that its check refuses.
+pub contract-no-file : (f list : List ℕ) {n p : ℕ} → checkTask f ≡ refused n p → contracted f list ≡ refused n p
+unfolding checkTask contracted
+contract-no-file f list h = rw (not-made (λ (t : Task). tt) (readTask f) h)
+
 -- A refused task file.
 pub contract-refused : (f list : List ℕ) {n p : ℕ} → compileFile f 13846 ≡ refused n p → contracted f list ≡ refused n p
 unfolding contracted

@@ -1,6 +1,6 @@
 -- Following a probe list in place: what code knows of a task's steps before it follows a list, and what it promises.
 use mathlib.Core.Path.{_≡_}
-use Prim.Native.Nat.{ℕ, suc, _+_, _*_, _-_, _≤_, _<_}
+use Prim.Native.Nat.{ℕ, suc, _+_, _*_, _≤_, _<_}
 use mathlib.Core.List.{List, _++_}
 use lib.ListN.{length, getD, take, drop}
 use Rattle.facts.specs.Lists.{total}
@@ -11,10 +11,10 @@ use Rattle.facts.specs.Run.{next, runFrom}
 use Rattle.taskfile.specs.Task.{Node, maxWeight, WfAction}
 use Rattle.taskfile.specs.WalkInPlace.{nodeCount, wayFrom, maxWalk, performAt, moveAt}
 use Rattle.taskfile.specs.PartsInPlace.{actionIn, actionsIn}
-use Rattle.compilation.specs.Compile.{edgeCount}
-use Rattle.plans.specs.Carry.{pathSteps, firstStep, expandFrom}
+use Rattle.compilation.specs.Compile.{edgeCount, stepCount}
+use Rattle.plans.specs.Carry.{pathSteps, expandFrom}
 use Rattle.carry.specs.CarryFile.{contracted}
-use Rattle.carry.specs.InPlace.{Noted}
+use Rattle.carry.specs.InPlace.{Edges, Numbered, Noted}
 use Rattle.carry.specs.declared.follow.Path.{Path}
 use Rattle.carry.specs.declared.follow.Path.the-variants.{To, Astray}
 use Rattle.carry.specs.declared.follow.Followed.{Followed}
@@ -22,9 +22,9 @@ use Rattle.carry.specs.declared.follow.Followed.the-variants.{Plan, Astr
 
 -- ---- one action
 
--- `first-edge` has the number of each node's first edge, counted from `first`, and `end` that of the end after all of them
+-- the first edges of these nodes are numbered from `first` on, and `end` is the number of the end after them
 pub record Edged (nodes : List Node) (first : ℕ) (first-edge : List ℕ) (end : ℕ) : Type 0 where
-  pub edges : (j : ℕ) → j < length nodes → getD first-edge j 0 ≡ first + total edgeCount (take j nodes)
+  pub edges : Edges nodes first first-edge
   pub end-is : end ≡ first + total edgeCount nodes
   pub few : end < 576
 
@@ -66,8 +66,8 @@ ActionTo f sizes at offsets s list from after Astray = Unit {0}
 -- what a list is followed by: each action is well-formed, its steps have their numbers, and each start has its action
 pub record Followable (f sizes actions firsts nodes first-step first-edge action-of : List ℕ) : Type 0 where
   pub well-formed : (a : ℕ) → a < length actions → WfAction sizes (actionIn f sizes (getD actions a 0) (drop (getD firsts a 0) nodes))
-  pub edged : (a : ℕ) → a < length actions → Edged (actionIn f sizes (getD actions a 0) (drop (getD firsts a 0) nodes) .nodes)
-      (1 + firstStep (actionsIn f sizes actions firsts nodes 0 (length actions)) a) (drop (getD firsts a 0) first-edge) (getD first-step (1 + a) 0 - 1)
+  pub numbered : Numbered (actionsIn f sizes actions firsts nodes 0 (length actions)) firsts first-step first-edge
+  pub few : total stepCount (actionsIn f sizes actions firsts nodes 0 (length actions)) ≤ 576
   pub noted : Noted (actionsIn f sizes actions firsts nodes 0 (length actions)) action-of
 
 -- the first n entries of `out` are actions that lead from the state s to the goal with this sum, and the list comes from them

@@ -1,8 +1,8 @@
 -- Laws of following a probe list in place: the path of one action entry by entry, then the actions one after the other.
-use mathlib.Core.Path.{_≡_, refl, sym, ap, ap₂, subst₂, _∙_}
+use mathlib.Core.Path.{_≡_, refl, sym, ap, ap₂, subst, subst₂, _∙_}
 use mathlib.Core.Bool.{Bool, true, false}
 use mathlib.Core.Option.{Option, none, some}
-use Prim.Native.Nat.{ℕ, zero, suc, _+_, _*_, _-_, _≤_, _<_}
+use Prim.Native.Nat.{ℕ, suc, _+_, _*_, _-_, _≤_, _<_}
 use native.Mathlib.Numerals.{add-one}
 use native.Mathlib.Omega.{arith}
 use mathlib.Core.List.{List, [], _∷_, _++_, append-nil, append-assoc}
@@ -11,7 +11,7 @@ use lib.ListN.{length, getD, take, drop, set, length-set, drop-of-length-le}
 use lib.Seq.{drop-cons, length-take-le}
 use borrow.Author.Tests.{eqb-true, lt-ltb}
 use Rattle.facts.specs.Lists.{total}
-use Rattle.facts.specs.ListLaws.{look}
+use Rattle.facts.specs.ListLaws.{look, at-length}
 use Rattle.facts.specs.Read.{accepted}
 use Rattle.facts.specs.Write.{Wrote, over}
 use Rattle.facts.specs.Partial.{Partial, holds, apply, partialAt}
@@ -19,27 +19,29 @@ use Rattle.facts.specs.PartialLaws.{apply-inside, length-apply}
 use Rattle.facts.specs.Fields.{wordAt}
 use Rattle.facts.specs.State.{Inside}
 use Rattle.facts.specs.Run.{runFrom}
-use Rattle.facts.specs.RunLaws.{list-fits}
 use Rattle.taskfile.specs.declared.Task.{Task as Index}
-use Rattle.taskfile.specs.Task.{Action, WfAction, maxList}
-use Rattle.taskfile.specs.TaskFile.{runTask}
+use Rattle.taskfile.specs.Task.{Action, Task, WfAction, maxList, taskSum}
+use Rattle.taskfile.specs.TaskLaws.{task-plan}
 use Rattle.taskfile.specs.Index.{Ready}
-use Rattle.taskfile.specs.AnswerLaws.{there as task-there, starts, run-is}
-use Rattle.taskfile.specs.WalkInPlace.{nodeCount, wayFrom, maxWalk, moveBy, moveAt, runList}
+use Rattle.taskfile.specs.AnswerLaws.{there as task-there, starts, starts-count}
+use Rattle.taskfile.specs.MoveInPlaceLaws.{sum-in-place}
+use Rattle.taskfile.specs.WalkInPlace.{nodeCount, wayFrom, maxWalk, moveBy, moveAt}
 use Rattle.taskfile.specs.WalkInPlaceLaws.{edge-is, turn-up, turn-none}
 use Rattle.taskfile.specs.PartsInPlace.{actionIn, actionsIn}
-use Rattle.taskfile.specs.PartsInPlaceLaws.{nodes-long, reads}
+use Rattle.taskfile.specs.PartsInPlaceLaws.{nodes-long, reads, located}
 use Rattle.compilation.specs.Compile.{edgeCount, stepCount}
-use Rattle.plans.specs.Carry.{pathSteps, firstStep, actionList, expandFrom, startedBy}
+use Rattle.plans.specs.Carry.{pathSteps, firstStep, actionList, expandFrom, expand, startedBy}
 use Rattle.plans.specs.ListLaws.{total-take}
 use Rattle.plans.specs.PathLaws.{steps-at, steps-end}
 use Rattle.carry.specs.CarryFile.{contracted}
-use Rattle.carry.specs.InPlace.{Noted, expansion}
-use Rattle.carry.specs.SameSumLaws.{over-front, expanded-back}
+use Rattle.carry.specs.InPlace.{Numbered, Noted, NotedIn}
+use Rattle.carry.specs.SameSumLaws.{over-front, contracted-plan}
 use Rattle.carry.specs.AnswerLaws.{wrote-entry}
-use Rattle.carry.specs.ExpandLaws.{actions-at, expand-plan, entries-are}
+use Rattle.carry.specs.NumberLaws.{actions-at, total-next, actionsOf, actions-are, steps-few, actions-wf}
 use Rattle.carry.specs.ActionLaws.{nodesAt, edgePlace, Visited}
-use Rattle.carry.specs.Follow.{Edged, Traced, Followable, Path-passed, Action-passed, Plan-followed}
+use Rattle.carry.specs.Follow.{Edged, Traced, Followable, Path-passed, Action-passed, Plan-followed, PlanTo, ContractsTo}
+use Rattle.carry.specs.declared.follow.Followed.{Followed}
+use Rattle.carry.specs.declared.follow.Followed.the-variants.{Plan, Astray as NoPlan}
 
 -- ---- the path of one action
 
@@ -66,7 +68,7 @@ module _ {f sizes : List ℕ} {at : ℕ} {offsets s list : List ℕ} {from : ℕ
     pub tracing-small : {node value : ℕ} → Visited f sizes at offsets s k node value → getD first-edge (k - 1) 0 + value < 576
     tracing-small v =
         let long = nodes-long f sizes offsets 0 (nodeCount f at) in
-        omega (arith, e .edges (k - 1) (omega (arith, long, v .above, v .within)), e .end-is, e .few, v .below, total-take edgeCount (v .element))
+        omega (arith, e .edges .number (k - 1) (omega (arith, long, v .above, v .within)), e .end-is, e .few, v .below, total-take edgeCount (v .element))
 
     -- The entry of node k's edge is passed: the walk goes on from its target.
     pub tracing-node : {node value target weight : ℕ} → Visited f sizes at offsets s k node value → node ≡ getD offsets (k - 1) 0
@@ -75,7 +77,7 @@ module _ {f sizes : List ℕ} {at : ℕ} {offsets s list : List ℕ} {from : ℕ
     tracing-node {node} {value} {target} {weight} v n l step t w few =
         let long = nodes-long f sizes offsets 0 (nodeCount f at) in
         let first = 1 + getD list from 0 in
-        let entry : first + (total edgeCount (take (k - 1) (nodesAt f sizes at offsets)) + getD s (getD f node 0) 0) ≡ getD list i 0 = omega (arith, e .edges (k - 1) (omega (arith, long, v .above, v .within)), v .value-is, step) in
+        let entry : first + (total edgeCount (take (k - 1) (nodesAt f sizes at offsets)) + getD s (getD f node 0) 0) ≡ getD list i 0 = omega (arith, e .edges .number (k - 1) (omega (arith, long, v .above, v .within)), v .value-is, step) in
         let edge = edge-is f node s refl (sym (v .value-is)) refl t w in
         let turn = turn-up f offsets (nodeCount f at) s k n (edge .0) (edge .1) (omega (arith, v .above, v .within)) (omega (arith, t, v .above)) in
         let steps : pathSteps first 1 (nodesAt f sizes at offsets) k s ≡ getD list i 0 ∷ pathSteps first 1 (nodesAt f sizes at offsets) target s =
@@ -153,7 +155,18 @@ placed f sizes actions firsts nodes = actionsIn f sizes actions firsts nodes 0 (
 pub traced-there : {f sizes actions firsts nodes first-step first-edge action-of s : List ℕ} → Followable f sizes actions firsts nodes first-step first-edge action-of → Inside sizes s
     → {a at end r : ℕ} {own own-edge : List ℕ} → a < length actions → at ≡ getD actions a 0 → own ≡ drop (getD firsts a 0) nodes → own-edge ≡ drop (getD firsts a 0) first-edge
     → end ≡ getD first-step (1 + a) 0 - 1 → r ≡ firstStep (placed f sizes actions firsts nodes) a → Traced f sizes at own own-edge end s (1 + r)
-traced-there p inside {a} known e o oe n r = rw (e, o, oe, n, r) (record { well-formed = p .well-formed a known; inside = inside; edged = p .edged a known })
+traced-there {f} {sizes} {actions} {firsts} {nodes} {first-step} p inside {a} known e o oe n r =
+    let x = actionIn f sizes (getD actions a 0) (drop (getD firsts a 0) nodes) in
+    let element = actions-at f sizes actions firsts nodes a (length actions) known in
+    let next : getD first-step (1 + a) 0 ≡ firstStep (placed f sizes actions firsts nodes) (1 + a) = p .numbered .numbers (1 + a) (omega (arith, at-length element)) in
+    let one : 1 + a ≡ suc a = omega arith in
+    let end : getD first-step (1 + a) 0 ≡ firstStep (placed f sizes actions firsts nodes) a + stepCount x = next ∙ ap (firstStep (placed f sizes actions firsts nodes)) one ∙ total-next stepCount element in
+    rw (e, o, oe, n, r)
+    (record {
+      well-formed = p .well-formed a known;
+      inside = inside;
+      edged = record { edges = p .numbered .edges element; end-is = omega (arith, end); few = omega (arith, end, total-take stepCount element, p .few) };
+    })
 
 -- The first i entries of the list come from actions that lead from the state `from` to s with this sum, and that are written at the front of a buffer.
 pub record Following (f sizes actions firsts nodes : List ℕ) (goal : Partial) (list from before now s : List ℕ) (i sum count : ℕ) : Type 0 where
@@ -231,17 +244,36 @@ module _ {f sizes actions firsts nodes : List ℕ} {goal : Partial} {list : List
               (ap (λ (z : List ℕ). runFrom (length actions) (moveAt f actions firsts nodes) goal 0 0 z from) (sym all) ∙ g .runs [] ∙ rw (← met));
         }
 
--- ---- a list that is followed to its end
+-- ---- a list on an accepted file
 
 module _ (f : List ℕ) {i : Index} (ready : Ready f i) where
-  -- It is contracted to the actions that it comes from.
-  pub followed-contracts : {sizes state list out : List ℕ} {n sum : ℕ} → sizes ≡ task-there f ready .task .sizes → state ≡ take (i .variables) (drop (1 + i .variables) f) → length out ≤ maxList
+  -- the file's task
+  abbrev t : Task
+  t = task-there f ready .task
+
+  -- It can be followed.
+  pub followable : {sizes first-step first-edge action-of : List ℕ} → sizes ≡ t .sizes → Numbered (actionsOf f ready sizes) (i .firsts) first-step first-edge → NotedIn f action-of
+      → Followable f sizes (take (i .actions) (i .starts)) (i .firsts) (i .nodes) first-step first-edge action-of
+  followable {action-of = action-of} e n noted = record {
+    well-formed = actions-wf f ready e;
+    numbered = n;
+    few = omega (arith, ap (total stepCount) (actions-are f ready e), steps-few f ready);
+    noted = subst (λ (xs : List Action). Noted xs action-of) (sym (actions-are f ready e)) (noted .noted t (reads f ready));
+  }
+
+  -- Where it is followed to its end, it is contracted to the actions that it comes from.
+  pub followed-contracts : {sizes state list out : List ℕ} {n sum : ℕ} → sizes ≡ t .sizes → state ≡ t .init → length out ≤ maxList
       → Plan-followed f sizes (1 + 2 * i .variables) (take (i .actions) (i .starts)) (i .firsts) (i .nodes) list state out n sum → (n ≤ length out) × (contracted f list ≡ accepted (take n out, sum))
-  unfolding runList
+  unfolding expand
   followed-contracts {sizes} {state} {list} {out} {n} {sum} e s few p =
       let plan = take n out in
       let short : length plan ≤ maxList = omega (arith, length-take-le n out (p .within), p .within) in
-      let runs : runTask f plan ≡ accepted sum = run-is f ready plan ∙ rw (list-fits maxList plan short, ← s) (p .runs) in
-      let init = s ∙ starts f ready .init in
-      let is : list ≡ expansion f plan = p .comes ∙ entries-are f ready (record { sum = sum; runs = runs }) e init in
-      (p .within, ap (contracted f) is ∙ expanded-back f plan (expand-plan f (reads f ready) plan runs))
+      let run : taskSum t plan ≡ accepted sum = sym (sum-in-place f (reads f ready) (located f ready) (starts-count f ready) (1 + 2 * i .variables) plan state s (starts f ready .goal)) ∙ p .runs in
+      let comes : list ≡ expand t plan = p .comes ∙ ap₂ (λ (xs : List Action) (z : List ℕ). expandFrom xs plan z) (actions-are f ready e) s in
+      (p .within, ap (contracted f) comes ∙ contracted-plan f (reads f ready) (task-plan t plan sum .1 run) short)
+
+  -- Whatever is answered.
+  pub followed-answers : {sizes state : List ℕ} (list out : List ℕ) → sizes ≡ t .sizes → state ≡ t .init → length out ≤ maxList → (r : Followed)
+      → PlanTo f sizes (1 + 2 * i .variables) (take (i .actions) (i .starts)) (i .firsts) (i .nodes) list state out r → ContractsTo f list out r
+  followed-answers list out e s few (Plan n sum) p = followed-contracts e s few p
+  followed-answers list out e s few NoPlan p = tt

@@ -11,7 +11,7 @@ use borrow.Rule.Slice.PartMut.{putMid, postOf, take-put}
 use Rattle.facts.specs.Lists.{total, At, here, there}
 use Rattle.facts.specs.ListLaws.{at-length}
 use Rattle.taskfile.specs.declared.Task.{Task as Index}
-use Rattle.taskfile.specs.Task.{Node, Action, Task, maxNodes}
+use Rattle.taskfile.specs.Task.{Node, Action, Task, maxNodes, WfAction}
 use Rattle.taskfile.specs.TaskReadLaws.{task-wf, task-limits}
 use Rattle.taskfile.specs.Index.{Ready}
 use Rattle.taskfile.specs.AnswerLaws.{there as task-there}
@@ -233,3 +233,10 @@ module _ (f : List ℕ) {i : Index} (ready : Ready f i) where
   rows-there {room = room} e l =
       subst (λ (xs : List Action). Rows xs (i .firsts) room) (sym (actions-are e))
       (record { few = steps-few; first-is = λ {a} {x} h. located f ready .first-is t (reads f ready) a x h; fits = omega (arith, task-limits f (reads f ready) .nodes) })
+
+  -- Each is well-formed.
+  pub actions-wf : {sizes : List ℕ} → sizes ≡ t .sizes → (a : ℕ) → a < length (take (i .actions) (i .starts)) → WfAction sizes (actionIn f sizes (getD (take (i .actions) (i .starts)) a 0) (drop (getD (i .firsts) a 0) (i .nodes)))
+  actions-wf {sizes} e a l =
+      let x = actionIn f sizes (getD (take (i .actions) (i .starts)) a 0) (drop (getD (i .firsts) a 0) (i .nodes)) in
+      let element = actions-at f sizes (take (i .actions) (i .starts)) (i .firsts) (i .nodes) a (length (take (i .actions) (i .starts))) l in
+      subst (λ (ds : List ℕ). WfAction ds x) (sym e) (task-wf f (reads f ready) .actions (subst (λ (xs : List Action). At xs a x) (actions-are e) element))

@@ -1,4 +1,7 @@
 // A probe list followed in place on the task: the entries of each action are held against the walk of its diagram.
+use crate::plan::initial;
+use crate::starts::note_actions;
+use crate::starts::number_steps;
 use facts::Held;
 use facts::number::byte_at;
 use facts::number::offset_at;
@@ -6,6 +9,7 @@ use facts::number::offset_within;
 use facts::partial::apply_at;
 use facts::partial::held_at;
 use facts::partial::holds_at;
+use taskfile::Task;
 use taskfile::walk::diagram_past;
 use taskfile::walk::edge_for;
 ghost use mathlib.Core.Path.{_≡_};
@@ -13,9 +17,10 @@ ghost use mathlib.Core.Bool.{false};
 ghost use Prim.Native.Nat.{_+_, _≤_, _<_};
 ghost use lib.ListN.{length, getD};
 ghost use Rattle.facts.specs.State.{Inside};
+ghost use Rattle.taskfile.specs.Index.{Ready};
 ghost use Rattle.taskfile.specs.Task.{maxList};
 ghost use Rattle.taskfile.specs.WalkInPlace.{nodeCount, maxPassed};
-ghost use Rattle.carry.specs.Follow.{Traced, PathTo, ActionTo, Followable, PlanTo};
+ghost use Rattle.carry.specs.Follow.{Traced, PathTo, ActionTo, Followable, PlanTo, ContractsTo};
 
 // Where the entries of an action end in a list, and what it costs; or the list has others.
 pub enum Path {
@@ -29,9 +34,52 @@ pub enum Followed {
     Astray,
 }
 
+// Follows a list from the initial state of an accepted file on, and notes the actions that it comes from.
+pub fn follow_plan(file: &[u8], task: Task, list: &[u16], actions: &mut [u16]) -> Followed
+    requires { ⌜ Ready (now file) task × (length (now actions) ≤ maxList) ⌝ }
+    ensures { λ r. ⌜ ContractsTo (now (file .entry)) (now (list .entry)) (now (actions .exit)) r ⌝ }
+{
+    let variables = task.variables;
+    let count = task.actions;
+    let starts = task.starts;
+    let firsts = task.firsts;
+    let nodes = task.nodes;
+    let last = 1 + variables;
+    let sizes = &file[1..last];
+    let action_at = &starts[..count];
+    let mut first_step = [0; 33];
+    let mut first_edge = [0; 64];
+    number_steps(
+        file,
+        sizes,
+        action_at,
+        &firsts,
+        &nodes,
+        &mut first_step,
+        &mut first_edge,
+    );
+    let mut action_of = [0; 576];
+    note_actions(&first_step[..count], &mut action_of);
+    let mut state = initial(file, variables);
+    follow_list(
+        file,
+        sizes,
+        1 + 2 * variables,
+        action_at,
+        &firsts,
+        &nodes,
+        &first_step,
+        &first_edge,
+        &action_of,
+        list,
+        &mut state[..variables],
+        actions,
+    )
+}
+
 // Follows a list from a state on, and notes the actions that it comes from. `first_step` has the number of each action's start, and past the last action the
 // number of steps; `first_edge` has that of each node's first edge; `action_of` has at the number of each start 1 and the number of its action.
-pub fn follow_list(
+fn follow_list(
     file: &[u8],
     sizes: &[u8],
     goal: usize,

@@ -1,9 +1,11 @@
 // Plans carried across between a task file and the probe file written from it, at the same sum.
+mod entries;
 mod follow;
 mod path;
 mod plan;
 mod starts;
 
+use crate::follow::Followed;
 use compile::Compiled;
 use facts::Checked;
 use facts::Ran;
@@ -88,6 +90,41 @@ fn expand_by(file: &[u8], task: Task, list: &[u16], room: &mut [u16], out: &mut 
 // Writes the list of actions that a probe list comes from: the task file's refusals, then 8, per step 11 before 9, 10 at the end, 8 for more than 256
 // actions, and 7 where the buffer is too short; a refusal changes no entry.
 pub fn contract(file: &[u8], list: &[u16], out: &mut [u16]) -> Carried
+    ensures { λ r. ⌜ carriedAnswer r ≡ answerIn (length (now (out .entry))) (contracted (now (file .entry)) (now (list .entry))) ⌝ }
+    ensures { λ r. ⌜ now (out .exit) ≡ bufferIn (now (out .entry)) (contracted (now (file .entry)) (now (list .entry))) ⌝ }
+{
+    let indexed = taskfile::index_of(file);
+    let answer = indexed.answer;
+    match answer {
+        Checked::Refused(why) => Carried::Refused(why),
+        Checked::Accepted => {
+            let task = indexed.task;
+            contract_in(file, task, list, out)
+        }
+    }
+}
+
+// The same, of a file that is accepted: a plan is followed on the task; only where a list strays from all plans its refusal is looked for on the written
+// file.
+fn contract_in(file: &[u8], task: Task, list: &[u16], out: &mut [u16]) -> Carried
+    requires { ⌜ Ready (now file) task ⌝ }
+    ensures { λ r. ⌜ carriedAnswer r ≡ answerIn (length (now (out .entry))) (contracted (now (file .entry)) (now (list .entry))) ⌝ }
+    ensures { λ r. ⌜ now (out .exit) ≡ bufferIn (now (out .entry)) (contracted (now (file .entry)) (now (list .entry))) ⌝ }
+{
+    let mut actions = [0; Task::MAX_LIST];
+    match follow::follow_plan(file, task, list, &mut actions) {
+        Followed::Astray => contract_written(file, list, out),
+        Followed::Plan(count, sum) => {
+            if out.len() < count {
+                return Carried::Refused(Refusal::Short(count));
+            }
+            Carried::List(entries::put(&actions[..count], out), sum)
+        }
+    }
+}
+
+// The same, by a run of the list on the written file.
+fn contract_written(file: &[u8], list: &[u16], out: &mut [u16]) -> Carried
     ensures { λ r. ⌜ carriedAnswer r ≡ answerIn (length (now (out .entry))) (contracted (now (file .entry)) (now (list .entry))) ⌝ }
     ensures { λ r. ⌜ now (out .exit) ≡ bufferIn (now (out .entry)) (contracted (now (file .entry)) (now (list .entry))) ⌝ }
 {

@@ -75,7 +75,7 @@ pub fn put_plan(file: &[u8], task: Task, list: &[u16], out: &mut [u16]) -> Liste
 }
 
 // The initial state: the values behind the domain sizes.
-fn initial(file: &[u8], variables: usize) -> [u8; 24]
+pub fn initial(file: &[u8], variables: usize) -> [u8; 24]
     requires { ⌜ (variables ≤ 24) × (1 + 2 * variables ≤ length (now file)) ⌝ }
     ensures { λ r. ⌜ (take variables r ≡ take variables (drop (1 + variables) (now (file .entry)))) × (length r ≡ 24) ⌝ }
 {

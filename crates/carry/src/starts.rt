@@ -105,7 +105,7 @@ pub fn contract_plan(file: &[u8], list: &[u16], sum: u32, out: &mut [u16]) -> Ca
 }
 
 // Notes at each start's number 1 and the number of its action; at every other step's 0 stays.
-fn note_starts(file: &[u8], task: Task, action_of: &mut [usize])
+fn note_starts(file: &[u8], task: Task, action_of: &mut [u8])
     requires { ⌜ Ready (now file) task × (now «action_of» ≡ replicate 576 0) ⌝ }
     ensures { λ r. ⌜ NotedIn (now (file .entry)) (now («action_of» .exit)) ⌝ }
 {
@@ -130,25 +130,25 @@ fn note_starts(file: &[u8], task: Task, action_of: &mut [usize])
 }
 
 // Notes 1 and the number of each action at the number of its start.
-fn note_actions(first_step: &[usize], action_of: &mut [usize])
-    requires { ⌜ (length (now «action_of») ≡ 576) × ((a : ℕ) → a < length (now «first_step») → getD (now «first_step») a 0 < 576) ⌝ }
+pub fn note_actions(first_step: &[usize], action_of: &mut [u8])
+    requires { ⌜ (length (now «action_of») ≡ 576) × (length (now «first_step») ≤ 32) × ((a : ℕ) → a < length (now «first_step») → getD (now «first_step») a 0 < 576) ⌝ }
     ensures { λ r. ⌜ now («action_of» .exit) ≡ noteFrom 0 (now («first_step» .entry)) (now («action_of» .entry)) ⌝ }
 {
     let mut a: usize = 0;
     while a < first_step.len() {
-        action_of[first_step[a]] = 1 + a;
+        action_of[first_step[a]] = (1 + a) as u8;
         a += 1;
     }
 }
 
 // How many actions a probe list starts.
-fn count_starts(action_of: &[usize], list: &[u16]) -> Starts
+fn count_starts(action_of: &[u8], list: &[u16]) -> Starts
     ensures { λ r. ⌜ startsAnswer r ≡ countIn (now («action_of» .entry)) 0 0 (now (list .entry)) ⌝ }
 {
     let mut count: usize = 0;
     let mut i: usize = 0;
     while i < list.len() {
-        if offset_at(action_of, list[i] as usize) == 0 {
+        if byte_at(action_of, list[i] as usize) == 0 {
             i += 1;
             continue;
         }
@@ -162,14 +162,14 @@ fn count_starts(action_of: &[usize], list: &[u16]) -> Starts
 }
 
 // Writes the number of each action that a probe list starts.
-fn put_starts(action_of: &[usize], list: &[u16], out: &mut [u16]) -> usize
+fn put_starts(action_of: &[u8], list: &[u16], out: &mut [u16]) -> usize
     requires { ⌜ ((r : ℕ) → getD (now «action_of») r 0 ≤ 32) × (length (contractIn (now «action_of») (now list)) ≤ length (now out)) ⌝ }
     ensures { λ r. ⌜ Wrote (contractIn (now («action_of» .entry)) (now (list .entry))) (now (out .entry)) (now (out .exit)) r ⌝ }
 {
     let mut written: usize = 0;
     let mut i: usize = 0;
     while i < list.len() {
-        let action = offset_at(action_of, list[i] as usize);
+        let action = byte_at(action_of, list[i] as usize);
         if action == 0 {
             i += 1;
             continue;

@@ -9,7 +9,7 @@ use Rattle.facts.specs.Partial.{partialAt}
 use Rattle.taskfile.specs.MoveInPlaceLaws.{own-nodes}
 use Rattle.taskfile.specs.PartsInPlace.{actionsIn}
 use Rattle.plans.specs.Carry.{firstStep}
-use Rattle.carry.specs.ExpandLaws.{actions-long}
+use Rattle.carry.specs.NumberLaws.{actions-long}
 use Rattle.carry.specs.Follow.{Traced, ActionTo, Action-passed}
 use Rattle.carry.specs.FollowLaws.{noted-start, traced-there, Following, following-start, following-next, following-end}
 use borrow.Author.Needs.{needs}

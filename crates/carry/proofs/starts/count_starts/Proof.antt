@@ -21,21 +21,21 @@ loop-again c =
     let a = c .before .before .before .before .before .before .before .args in
     let l = c .before .before .before .before .loop in
     let test = c .before .before .before .loop-test .taken in
-    (omega (arith, test), l .inv .1, sym (count-on (now (a .action-of)) (now (a .list)) (l .i) test (c .before .offset-at .ensures) (l .count) (c .if1 .taken)) ∙ l .inv .2)
+    (omega (arith, test), l .inv .1, sym (count-on (now (a .action-of)) (now (a .list)) (l .i) test (c .before .byte-at .ensures) (l .count) (c .if1 .taken)) ∙ l .inv .2)
 
 returns : tie.Need-returns Inv-loop μ-loop
 returns c =
     let a = c .before .before .before .before .before .before .before .before .args in
     let l = c .before .before .before .before .before .loop in
     let test = c .before .before .before .before .loop-test .taken in
-    sym (count-over (now (a .action-of)) (now (a .list)) (l .i) test (c .before .before .offset-at .ensures) (c .before .if1 .left) (l .count) (c .if2 .taken)) ∙ l .inv .2
+    sym (count-over (now (a .action-of)) (now (a .list)) (l .i) test (c .before .before .byte-at .ensures) (c .before .if1 .left) (l .count) (c .if2 .taken)) ∙ l .inv .2
 
 loop-again-2 : tie.Need-loop-again-2 Inv-loop μ-loop
 loop-again-2 c =
     let a = c .before .before .before .before .before .before .before .before .args in
     let l = c .before .before .before .before .before .loop in
     let test = c .before .before .before .before .loop-test .taken in
-    let counted = count-one (now (a .action-of)) (now (a .list)) (l .i) test (c .before .before .offset-at .ensures) (c .before .if1 .left) (l .count) (c .if2 .left) in
+    let counted = count-one (now (a .action-of)) (now (a .list)) (l .i) test (c .before .before .byte-at .ensures) (c .before .if1 .left) (l .count) (c .if2 .left) in
     (omega (arith, test), omega (arith, c .if2 .left), sym counted ∙ l .inv .2)
 
 returns-2 : tie.Need-returns-2 Inv-loop μ-loop

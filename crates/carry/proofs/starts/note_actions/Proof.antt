@@ -18,7 +18,7 @@ abbrev μ-loop : tie.MeasureT-loop
 
 -- the start is one of the 576 numbers
 below : (c : tie.In-loop Inv-loop μ-loop) → getD (now (c .before .before .args .first-step)) (c .before .loop .a) 0 < 576
-below c = c .before .before .pre .1 (c .before .loop .a) (c .loop-test .taken)
+below c = c .before .before .pre .2 (c .before .loop .a) (c .loop-test .taken)
 
 loop-again : tie.Need-loop-again Inv-loop μ-loop
 loop-again c =

@@ -38,7 +38,7 @@ numbers c = omega (arith, begins (c .before .before .before .before .before .bef
 note-actions-requires : tie.Need-note-actions-requires
 note-actions-requires c κs =
     let s = c .before .before .before .before .before .before .before .before .before .before .before .before .before .before .before .before in
-    (ap length (s .pre .1), start-below (now (s .args .file)) (s .pre .0) (sizes-are s) (c .before .before .before .before .number-steps .ensures) (numbers (c .before .before)))
+    (ap length (s .pre .1), let n = length-take-le (s .args .task .actions) (c .before .before .before .before .number-steps .last .1 .1 .1 .1 .1 .0) (numbers (c .before .before)) in omega (arith, n, begins s .actions), start-below (now (s .args .file)) (s .pre .0) (sizes-are s) (c .before .before .before .before .number-steps .ensures) (numbers (c .before .before)))
 
 returns : tie.Need-returns
 returns c =

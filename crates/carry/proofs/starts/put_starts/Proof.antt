@@ -24,19 +24,19 @@ loop-again c =
     let a = c .before .before .before .before .before .before .before .before .args in
     let l = c .before .before .before .before .loop in
     let test = c .before .before .before .loop-test .taken in
-    let on = turn-other (now (a .action-of)) (now (a .list)) (l .i) test (c .before .offset-at .ensures) (c .if1 .taken) in
+    let on = turn-other (now (a .action-of)) (now (a .list)) (l .i) test (c .before .byte-at .ensures) (c .if1 .taken) in
     (omega (arith, test), subst (λ (rest : List ℕ). Going (contractIn (now (a .action-of)) (now (a .list))) rest (now (a .out)) (l .out) (l .written)) on (l .inv .1))
 
 -- the next action of those that are left
-next : (c : tie.Else1 Inv-loop μ-loop) → let a = c .before .before .before .before .before .before .before .before .args in let l = c .before .before .before .before .loop in Cut (contractIn (now (a .action-of)) (drop (l .i) (now (a .list)))) ((c .before .offset-at .result - 1) ∷ []) (contractIn (now (a .action-of)) (drop (l .i + 1) (now (a .list))))
+next : (c : tie.Else1 Inv-loop μ-loop) → let a = c .before .before .before .before .before .before .before .before .args in let l = c .before .before .before .before .loop in Cut (contractIn (now (a .action-of)) (drop (l .i) (now (a .list)))) ((c .before .byte-at .result - 1) ∷ []) (contractIn (now (a .action-of)) (drop (l .i + 1) (now (a .list))))
 next c =
     let a = c .before .before .before .before .before .before .before .before .args in
-    turn-start (now (a .action-of)) (now (a .list)) (c .before .before .before .before .loop .i) (c .before .before .before .loop-test .taken) (c .before .offset-at .ensures) (c .if1 .left)
+    turn-start (now (a .action-of)) (now (a .list)) (c .before .before .before .before .loop .i) (c .before .before .before .loop-test .taken) (c .before .byte-at .ensures) (c .if1 .left)
 
-small : (c : tie.Else1 Inv-loop μ-loop) → c .before .offset-at .result ≤ 32
+small : (c : tie.Else1 Inv-loop μ-loop) → c .before .byte-at .result ≤ 32
 small c =
     let s = c .before .before .before .before .before .before .before .before in
-    omega (arith, c .before .offset-at .ensures, s .pre .0 (getD (now (s .args .list)) (c .before .before .before .before .loop .i) 0))
+    omega (arith, c .before .byte-at .ensures, s .pre .0 (getD (now (s .args .list)) (c .before .before .before .before .loop .i) 0))
 
 room : (c : tie.Else1 Inv-loop μ-loop) → c .before .before .before .before .loop .written < length (c .before .before .before .before .loop .out)
 room c = entry-room (c .before .before .before .before .loop .inv .1) (c .before .before .before .before .before .before .before .before .pre .1) (next c)
