@@ -13,7 +13,6 @@ use taskfile::Task;
 use taskfile::walk::diagram_past;
 use taskfile::walk::edge_for;
 ghost use mathlib.Core.Path.{_≡_};
-ghost use mathlib.Core.Bool.{false};
 ghost use Prim.Native.Nat.{_+_, _≤_, _<_};
 ghost use lib.ListN.{length, getD};
 ghost use Rattle.facts.specs.State.{Inside};
@@ -176,7 +175,8 @@ fn follow_action(
     }
 }
 
-// Follows the walk of the same action, which has `count` nodes: past the start the entry of an edge for each node passed, and the end.
+// Follows the walk of the same action, which has `count` nodes: past the start the entry of an edge for each node passed, and the end. An entry tells the
+// value whose edge it is, so that the next node is known before the state is asked.
 fn follow_path(
     file: &[u8],
     sizes: &[u8],
@@ -196,31 +196,33 @@ fn follow_path(
     let mut i = 1 + from;
     let mut k: usize = 1;
     while k <= count {
-        let node = offset_at(nodes, k - 1);
-        let value = byte_at(state, byte_at(file, node) as usize);
-        if strays(list, i, offset_at(first_edge, k - 1) + value as usize) {
+        let j = k - 1;
+        let node = offset_at(nodes, j);
+        let value = past(list, i, offset_at(first_edge, j));
+        if byte_at(state, byte_at(file, node) as usize) as usize != value {
             return Path::Astray;
         }
-        let edge = edge_for(file, node, value);
+        let edge = edge_for(file, node, value as u8);
         cost += edge.weight;
         i += 1;
         k = edge.target;
     }
-    if strays(list, i, end) {
+    if past(list, i, end) != 0 {
         return Path::Astray;
     }
     Path::To(i + 1, cost)
 }
 
-// Whether a list has another step at an index than this one, or none.
-fn strays(list: &[u16], i: usize, step: usize) -> bool
-    ensures { λ r. ⌜ (r ≡ false → (i < length (now (list .entry))) × (getD (now (list .entry)) i 0 ≡ step)) ⌝ }
+// How far past a step the entry at an index lies; more than any value where it is no later step, or not there.
+fn past(list: &[u16], i: usize, step: usize) -> usize
+    ensures { λ r. ⌜ (r < 256 → (i < length (now (list .entry))) × (getD (now (list .entry)) i 0 ≡ step + r)) ⌝ }
 {
     if list.len() <= i {
-        return true;
+        return 256;
     }
-    if list[i] as usize == step {
-        return false;
+    let entry = list[i] as usize;
+    if entry < step {
+        return 256;
     }
-    true
+    entry - step
 }
