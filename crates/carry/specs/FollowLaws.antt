@@ -31,13 +31,12 @@ use Rattle.taskfile.specs.PartsInPlace.{actionIn, actionsIn}
 use Rattle.taskfile.specs.PartsInPlaceLaws.{nodes-long, reads, located}
 use Rattle.compilation.specs.Compile.{edgeCount, stepCount}
 use Rattle.plans.specs.Carry.{pathSteps, firstStep, actionList, expandFrom, expand, startedBy}
-use Rattle.plans.specs.ListLaws.{total-take}
 use Rattle.plans.specs.PathLaws.{steps-at, steps-end}
 use Rattle.carry.specs.CarryFile.{contracted}
 use Rattle.carry.specs.InPlace.{Numbered, Noted, NotedIn}
 use Rattle.carry.specs.SameSumLaws.{over-front, contracted-plan}
 use Rattle.carry.specs.AnswerLaws.{wrote-entry}
-use Rattle.carry.specs.NumberLaws.{actions-at, total-next, actionsOf, actions-are, steps-few, actions-wf}
+use Rattle.carry.specs.NumberLaws.{actions-at, total-next, actionsOf, actions-are, actions-wf}
 use Rattle.carry.specs.ActionLaws.{nodesAt, edgePlace, Visited}
 use Rattle.carry.specs.Follow.{Edged, Traced, Followable, Path-passed, Action-passed, Plan-followed, PlanTo, ContractsTo}
 use Rattle.carry.specs.declared.follow.Followed.{Followed}
@@ -64,12 +63,6 @@ module _ {f sizes : List ℕ} {at : ℕ} {offsets s list : List ℕ} {from : ℕ
       record { low = omega arith; high = omega arith; later = omega arith; within = omega arith; paid = omega arith; small = omega arith; left = λ rest h. rw one at h }
 
   module _ {first-edge : List ℕ} {end i cost k : ℕ} (e : Edged (nodesAt f sizes at offsets) (1 + getD list from 0) first-edge end) (p : Tracing f sizes at offsets s list from i cost k) where
-    -- The number of its edge is small.
-    pub tracing-small : {node value : ℕ} → Visited f sizes at offsets s k node value → getD first-edge (k - 1) 0 + value < 576
-    tracing-small v =
-        let long = nodes-long f sizes offsets 0 (nodeCount f at) in
-        omega (arith, e .edges .number (k - 1) (omega (arith, long, v .above, v .within)), e .end-is, e .few, v .below, total-take edgeCount (v .element))
-
     -- The entry of node k's edge is passed: the walk goes on from its target.
     pub tracing-node : {node value target weight : ℕ} → Visited f sizes at offsets s k node value → node ≡ getD offsets (k - 1) 0
         → i < length list → getD list i 0 ≡ getD first-edge (k - 1) 0 + value → target ≡ getD f (edgePlace node value) 0 → weight ≡ wordAt f (edgePlace node value + 1) → weight ≤ 65535
@@ -165,7 +158,7 @@ traced-there {f} {sizes} {actions} {firsts} {nodes} {first-step} p inside {a} kn
     (record {
       well-formed = p .well-formed a known;
       inside = inside;
-      edged = record { edges = p .numbered .edges element; end-is = omega (arith, end); few = omega (arith, end, total-take stepCount element, p .few) };
+      edged = record { edges = p .numbered .edges element; end-is = omega (arith, end) };
     })
 
 -- The first i entries of the list come from actions that lead from the state `from` to s with this sum, and that are written at the front of a buffer.
@@ -257,7 +250,6 @@ module _ (f : List ℕ) {i : Index} (ready : Ready f i) where
   followable {action-of = action-of} e n noted = record {
     well-formed = actions-wf f ready e;
     numbered = n;
-    few = omega (arith, ap (total stepCount) (actions-are f ready e), steps-few f ready);
     noted = subst (λ (xs : List Action). Noted xs action-of) (sym (actions-are f ready e)) (noted .noted t (reads f ready));
   }
 
