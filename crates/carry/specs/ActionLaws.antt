@@ -96,28 +96,35 @@ module _ (f sizes offsets : List ℕ) (count : ℕ) {first-edge : List ℕ} {fir
         cost-few = omega arith;
       }
 
+  module _ {k node value target : ℕ} (v : Visited f sizes offsets count s k node value target) {edge : ℕ} (e : edge ≡ getD first-edge (k - 1) 0) where
+    -- the number of the node's first edge
+    edge-number : edge ≡ 1 + first + total edgeCount (take (k - 1) nodes)
+    edge-number = e ∙ w .edges .number (k - 1) (at-length (v .element))
+
+    -- The path from node k begins with the node's edge.
+    pub path-entry : pathSteps (suc first) 1 nodes k s ≡ (edge + value) ∷ pathSteps (suc first) 1 nodes target s
+    path-entry =
+        let entry : suc first + (total edgeCount (take (k - 1) nodes) + getD s (getD f node 0) 0) ≡ edge + value = omega (arith, edge-number, v .value-is) in
+        steps-at s (suc first) 1 k (v .element) (v .number) (omega (arith, v .target-is, v .above)) ∙ rw (entry, v .target-is)
+
+  -- Past the last node the path is the end.
+  pub path-last : {k : ℕ} → count < k → pathSteps (suc first) 1 nodes k s ≡ (next - 1) ∷ []
+  path-last {k} past =
+      let end : suc first + total edgeCount nodes ≡ next - 1 = omega (arith, w .next-is) in
+      steps-end s (suc first) 1 k nodes (omega (arith, nodes-long f sizes offsets 0 count)) ∙ rw end
+
   module _ {before now : List ℕ} {written cost k : ℕ} (p : Passing f sizes offsets count s first before now written cost k) (long : length before ≡ room) where
     fits : length (entriesOf first nodes s) ≤ length before
     fits = omega (arith, w .fits)
 
     module _ {node value target : ℕ} (v : Visited f sizes offsets count s k node value target) {edge : ℕ} (e : edge ≡ getD first-edge (k - 1) 0) where
-      -- the number of the node's first edge
-      edge-number : edge ≡ 1 + first + total edgeCount (take (k - 1) nodes)
-      edge-number = e ∙ w .edges .number (k - 1) (at-length (v .element))
-
       -- The number of the edge is below that of the end.
       pub passing-small : edge + value + 1 < next
-      passing-small = omega (arith, edge-number, v .below, total-take edgeCount (v .element), w .next-is)
-
-      -- The next entry is the edge of node k.
-      passing-entry : pathSteps (suc first) 1 nodes k s ≡ (edge + value) ∷ pathSteps (suc first) 1 nodes target s
-      passing-entry =
-          let entry : suc first + (total edgeCount (take (k - 1) nodes) + getD s (getD f node 0) 0) ≡ edge + value = omega (arith, edge-number, v .value-is) in
-          steps-at s (suc first) 1 k (v .element) (v .number) (omega (arith, v .target-is, v .above)) ∙ rw (entry, v .target-is)
+      passing-small = omega (arith, edge-number v e, v .below, total-take edgeCount (v .element), w .next-is)
 
       -- There is room for it.
       pub passing-room : written < length now
-      passing-room = entry-room (p .going) fits (record { cut = passing-entry })
+      passing-room = entry-room (p .going) fits (record { cut = path-entry v e })
 
       -- Once it is written, the path from the edge's target is left.
       pub passing-next : {weight : ℕ} → (wayFrom f offsets count s k .cost ≡ weight + wayFrom f offsets count s target .cost) → weight ≤ maxWeight
@@ -125,7 +132,7 @@ module _ (f sizes offsets : List ℕ) (count : ℕ) {first-edge : List ℕ} {fir
       passing-next paid few = record {
         low = omega (arith, v .above);
         high = v .within;
-        going = entry-more (p .going) fits (record { cut = passing-entry });
+        going = entry-more (p .going) fits (record { cut = path-entry v e });
         cost-is = omega (arith, p .cost-is, paid);
         cost-few = omega (arith, p .cost-few, v .above);
       }
@@ -135,18 +142,13 @@ module _ (f sizes offsets : List ℕ) (count : ℕ) {first-edge : List ℕ} {fir
       pub passing-paid : cost ≡ wayFrom f offsets count s 1 .cost
       passing-paid = omega (arith, p .cost-is, turn-none f offsets count s k past .0)
 
-      -- The last entry is the end.
-      passing-last : pathSteps (suc first) 1 nodes k s ≡ (next - 1) ∷ []
-      passing-last =
-          let end : suc first + total edgeCount nodes ≡ next - 1 = omega (arith, w .next-is) in
-          steps-end s (suc first) 1 k nodes (omega (arith, nodes-long f sizes offsets 0 count)) ∙ rw end
-
+      -- There is room for the end.
       pub last-room : written < length now
-      last-room = entry-room (p .going) fits (record { cut = passing-last })
+      last-room = entry-room (p .going) fits (record { cut = path-last past })
 
       -- Once it is written, all is.
       pub last-wrote : Wrote (entriesOf first nodes s) before (set now written (next - 1)) (written + 1)
-      last-wrote = going-end (entry-more (p .going) fits (record { cut = passing-last })) fits refl
+      last-wrote = going-end (entry-more (p .going) fits (record { cut = path-last past })) fits refl
 
 -- Nothing is written.
 pub wrote-nothing : (out : List ℕ) → Wrote [] out out 0

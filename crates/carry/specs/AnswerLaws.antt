@@ -43,10 +43,6 @@ module _ {whole rest before now more : List ℕ} {at x : ℕ} (g : Going whole r
     left = g .left ∙ ap (λ (z : List ℕ). g .done ++ z) (e .cut) ∙ sym (append-assoc (g .done) (x ∷ []) more);
   }
 
--- Of a list, its next entry and those after it are left.
-pub entry-next : (list : List ℕ) (i : ℕ) → i < length list → Cut (drop i list) (getD list i 0 ∷ []) (drop (i + 1) list)
-entry-next list i l = record { cut = rw (add-one i) (drop-cons list i 0 l) }
-
 -- ---- the answer and the buffer, of either operation
 
 module _ {carried : Read (List ℕ × ℕ)} where

@@ -16,89 +16,83 @@ use Rattle.facts.specs.Read.{accepted}
 use Rattle.facts.specs.Write.{Wrote, over}
 use Rattle.facts.specs.Partial.{Partial, holds, apply, partialAt}
 use Rattle.facts.specs.PartialLaws.{apply-inside, length-apply}
-use Rattle.facts.specs.Fields.{wordAt}
 use Rattle.facts.specs.State.{Inside}
 use Rattle.facts.specs.Run.{runFrom}
 use Rattle.taskfile.specs.declared.Task.{Task as Index}
-use Rattle.taskfile.specs.Task.{Action, Task, WfAction, maxList, taskSum}
+use Rattle.taskfile.specs.Task.{Action, Task, WfAction, maxWeight, maxList, taskSum}
 use Rattle.taskfile.specs.TaskLaws.{task-plan}
 use Rattle.taskfile.specs.Index.{Ready}
 use Rattle.taskfile.specs.AnswerLaws.{there as task-there, starts, starts-count}
 use Rattle.taskfile.specs.MoveInPlaceLaws.{sum-in-place}
-use Rattle.taskfile.specs.WalkInPlace.{nodeCount, wayFrom, maxWalk, moveBy, moveAt}
-use Rattle.taskfile.specs.WalkInPlaceLaws.{edge-is, turn-up, turn-none}
-use Rattle.taskfile.specs.PartsInPlace.{actionIn, actionsIn}
-use Rattle.taskfile.specs.PartsInPlaceLaws.{nodes-long, reads, located}
-use Rattle.compilation.specs.Compile.{edgeCount, stepCount}
+use Rattle.taskfile.specs.WalkInPlace.{wayFrom, maxWalk, moveBy, moveAt}
+use Rattle.taskfile.specs.WalkInPlaceLaws.{turn-none}
+use Rattle.taskfile.specs.PartsInPlace.{nodesIn, actionIn, actionsIn}
+use Rattle.taskfile.specs.PartsInPlaceLaws.{reads, located}
+use Rattle.compilation.specs.Compile.{stepCount}
 use Rattle.plans.specs.Carry.{pathSteps, firstStep, actionList, expandFrom, expand, startedBy}
-use Rattle.plans.specs.PathLaws.{steps-at, steps-end}
+use Rattle.plans.specs.ListLaws.{total-take}
 use Rattle.carry.specs.CarryFile.{contracted}
-use Rattle.carry.specs.InPlace.{Numbered, Noted, NotedIn}
+use Rattle.carry.specs.InPlace.{entriesOf, Numbered, Noted, NotedIn}
 use Rattle.carry.specs.SameSumLaws.{over-front, contracted-plan}
 use Rattle.carry.specs.AnswerLaws.{wrote-entry}
-use Rattle.carry.specs.NumberLaws.{actions-at, total-next, actionsOf, actions-are, actions-wf}
-use Rattle.carry.specs.ActionLaws.{nodesAt, edgePlace, Visited}
-use Rattle.carry.specs.Follow.{Edged, Traced, Followable, Path-passed, Action-passed, Plan-followed, PlanTo, ContractsTo}
+use Rattle.carry.specs.NumberLaws.{actions-at, total-next, actionsOf, actions-are, steps-few, actions-wf}
+use Rattle.carry.specs.ActionLaws.{Visited, path-entry, path-last}
+use Rattle.carry.specs.Follow.{Walkable, Followable, Path-passed, Action-passed, Plan-followed, PlanTo, ContractsTo}
 use Rattle.carry.specs.declared.follow.Followed.{Followed}
 use Rattle.carry.specs.declared.follow.Followed.the-variants.{Plan, Astray as NoPlan}
 
 -- ---- the path of one action
 
--- before node k the entries of the path up to index i are passed, which cost so much
-pub record Tracing (f sizes : List ℕ) (at : ℕ) (offsets s list : List ℕ) (from i cost k : ℕ) : Type 0 where
+-- before node k the entries up to index i are passed, and their edges cost so much
+pub record Tracing (f sizes offsets : List ℕ) (count : ℕ) (s list : List ℕ) (from i cost k : ℕ) : Type 0 where
   pub low : 1 ≤ k
-  pub high : k ≤ suc (nodeCount f at)
+  pub high : k ≤ suc count
   pub later : from < i
   pub within : i ≤ length list
-  pub paid : wayFrom f offsets (nodeCount f at) s 1 .cost ≡ cost + wayFrom f offsets (nodeCount f at) s k .cost
-  pub small : cost + 65535 ≤ 65535 * k
-  pub left : (rest : List ℕ) → drop i list ≡ pathSteps (1 + getD list from 0) 1 (nodesAt f sizes at offsets) k s ++ rest
-      → drop (suc from) list ≡ pathSteps (1 + getD list from 0) 1 (nodesAt f sizes at offsets) 1 s ++ rest
+  pub paid : wayFrom f offsets count s 1 .cost ≡ cost + wayFrom f offsets count s k .cost
+  pub small : cost + maxWeight ≤ maxWeight * k
+  pub left : (rest : List ℕ) → drop i list ≡ pathSteps (suc (getD list from 0)) 1 (nodesIn f sizes offsets 0 count) k s ++ rest
+      → drop from list ≡ entriesOf (getD list from 0) (nodesIn f sizes offsets 0 count) s ++ rest
 
-module _ {f sizes : List ℕ} {at : ℕ} {offsets s list : List ℕ} {from : ℕ} where
+module _ {f sizes offsets : List ℕ} {count : ℕ} {s list : List ℕ} {from : ℕ} where
   -- At first only the start is.
-  pub tracing-start : from < length list → Tracing f sizes at offsets s list from (1 + from) 0 1
+  pub tracing-start : from < length list → Tracing f sizes offsets count s list from (1 + from) 0 1
   tracing-start l =
       let one : 1 + from ≡ suc from = omega arith in
-      record { low = omega arith; high = omega arith; later = omega arith; within = omega arith; paid = omega arith; small = omega arith; left = λ rest h. rw one at h }
+      record {
+        low = omega arith;
+        high = omega arith;
+        later = omega arith;
+        within = omega arith;
+        paid = omega arith;
+        small = omega arith;
+        left = λ rest h. drop-cons list from 0 l ∙ ap (λ (z : List ℕ). getD list from 0 ∷ z) (rw one at h);
+      }
 
-  module _ {first-edge : List ℕ} {end i cost k : ℕ} (e : Edged (nodesAt f sizes at offsets) (1 + getD list from 0) first-edge end) (p : Tracing f sizes at offsets s list from i cost k) where
+  module _ {first-edge : List ℕ} {next i cost k : ℕ} (w : Walkable sizes (nodesIn f sizes offsets 0 count) first-edge (getD list from 0) next s) (p : Tracing f sizes offsets count s list from i cost k) where
     -- The entry of node k's edge is passed: the walk goes on from its target.
-    pub tracing-node : {node value target weight : ℕ} → Visited f sizes at offsets s k node value → node ≡ getD offsets (k - 1) 0
-        → i < length list → getD list i 0 ≡ getD first-edge (k - 1) 0 + value → target ≡ getD f (edgePlace node value) 0 → weight ≡ wordAt f (edgePlace node value + 1) → weight ≤ 65535
-        → Tracing f sizes at offsets s list from (i + 1) (cost + weight) target
-    tracing-node {node} {value} {target} {weight} v n l step t w few =
-        let long = nodes-long f sizes offsets 0 (nodeCount f at) in
-        let first = 1 + getD list from 0 in
-        let entry : first + (total edgeCount (take (k - 1) (nodesAt f sizes at offsets)) + getD s (getD f node 0) 0) ≡ getD list i 0 = omega (arith, e .edges .number (k - 1) (omega (arith, long, v .above, v .within)), v .value-is, step) in
-        let edge = edge-is f node s refl (sym (v .value-is)) refl t w in
-        let turn = turn-up f offsets (nodeCount f at) s k n (edge .0) (edge .1) (omega (arith, v .above, v .within)) (omega (arith, t, v .above)) in
-        let steps : pathSteps first 1 (nodesAt f sizes at offsets) k s ≡ getD list i 0 ∷ pathSteps first 1 (nodesAt f sizes at offsets) target s =
-        steps-at s first 1 k (v .element) (v .number) (omega (arith, v .target, v .above)) ∙ rw (entry, v .target, ← t) in
+    pub tracing-node : {node value target weight edge : ℕ} → Visited f sizes offsets count s k node value target → edge ≡ getD first-edge (k - 1) 0 → i < length list → getD list i 0 ≡ edge + value
+        → wayFrom f offsets count s k .cost ≡ weight + wayFrom f offsets count s target .cost → weight ≤ maxWeight → Tracing f sizes offsets count s list from (i + 1) (cost + weight) target
+    tracing-node {target = target} v e l step paid few =
+        let steps : pathSteps (suc (getD list from 0)) 1 (nodesIn f sizes offsets 0 count) k s ≡ getD list i 0 ∷ pathSteps (suc (getD list from 0)) 1 (nodesIn f sizes offsets 0 count) target s =
+        path-entry f sizes offsets count w v e ∙ ap (λ (r : ℕ). r ∷ pathSteps (suc (getD list from 0)) 1 (nodesIn f sizes offsets 0 count) target s) (sym step) in
         record {
-          low = omega (arith, t, v .above);
-          high = omega (arith, t, v .within);
+          low = omega (arith, v .above);
+          high = v .within;
           later = omega (arith, p .later);
           within = omega arith;
-          paid = omega (arith, p .paid, turn);
-          small = omega (arith, p .small, few, t, v .above);
+          paid = omega (arith, p .paid, paid);
+          small = omega (arith, p .small, few, v .above);
           left = λ rest h. p .left rest (drop-cons list i 0 l ∙ ap (λ (z : List ℕ). getD list i 0 ∷ z) (rw (add-one i) at h) ∙ ap (λ (z : List ℕ). z ++ rest) (sym steps));
         }
 
     -- The end is passed, past the last node.
-    pub tracing-end : nodeCount f at < k → i < length list → getD list i 0 ≡ end → Path-passed f sizes at offsets s list from (i + 1) cost
+    pub tracing-end : count < k → i < length list → getD list i 0 ≡ next - 1 → Path-passed f sizes offsets count s list from (i + 1) cost
     tracing-end past l step =
-        let long = nodes-long f sizes offsets 0 (nodeCount f at) in
-        let first = 1 + getD list from 0 in
-        let steps : pathSteps first 1 (nodesAt f sizes at offsets) k s ≡ getD list i 0 ∷ [] =
-        steps-end s first 1 k (nodesAt f sizes at offsets) (omega (arith, long)) ∙ ap {B = List ℕ} (λ (r : ℕ). r ∷ []) (sym (step ∙ e .end-is)) in
+        let steps : pathSteps (suc (getD list from 0)) 1 (nodesIn f sizes offsets 0 count) k s ≡ getD list i 0 ∷ [] = path-last f sizes offsets count w past ∙ ap {B = List ℕ} (λ (r : ℕ). r ∷ []) (sym step) in
         record {
-          passed = record {
-            entries = p .left (drop (i + 1) list) (drop-cons list i 0 l ∙ rw (steps, add-one i));
-            later = omega (arith, p .later);
-            within = omega arith;
-          };
-          cost-is = omega (arith, p .paid, turn-none f offsets (nodeCount f at) s k past .0);
+          passed = record { entries = p .left (drop (i + 1) list) (drop-cons list i 0 l ∙ rw (steps, add-one i)); later = omega (arith, p .later); within = omega arith };
+          cost-is = omega (arith, p .paid, turn-none f offsets count s k past .0);
           small = omega (arith, p .small, p .high);
         }
 
@@ -145,20 +139,21 @@ abbrev placed : List ℕ → List ℕ → List ℕ → List ℕ → List ℕ →
 placed f sizes actions firsts nodes = actionsIn f sizes actions firsts nodes 0 (length actions)
 
 -- What an action is followed by, in a state inside the domains.
-pub traced-there : {f sizes actions firsts nodes first-step first-edge action-of s : List ℕ} → Followable f sizes actions firsts nodes first-step first-edge action-of → Inside sizes s
-    → {a at end r : ℕ} {own own-edge : List ℕ} → a < length actions → at ≡ getD actions a 0 → own ≡ drop (getD firsts a 0) nodes → own-edge ≡ drop (getD firsts a 0) first-edge
-    → end ≡ getD first-step (1 + a) 0 - 1 → r ≡ firstStep (placed f sizes actions firsts nodes) a → Traced f sizes at own own-edge end s (1 + r)
-traced-there {f} {sizes} {actions} {firsts} {nodes} {first-step} p inside {a} known e o oe n r =
-    let x = actionIn f sizes (getD actions a 0) (drop (getD firsts a 0) nodes) in
+pub walkable-there : {f sizes actions firsts nodes first-step first-edge action-of s : List ℕ} → Followable f sizes actions firsts nodes first-step first-edge action-of → Inside sizes s
+    → {a at next r : ℕ} {own row : List ℕ} → a < length actions → at ≡ getD actions a 0 → own ≡ drop (getD firsts a 0) nodes → row ≡ drop (getD firsts a 0) first-edge
+    → next ≡ getD first-step (1 + a) 0 → r ≡ firstStep (placed f sizes actions firsts nodes) a → Walkable sizes (actionIn f sizes at own .nodes) row r next s
+walkable-there {f} {sizes} {actions} {firsts} {nodes} {first-step} p inside {a} known e o oe n r =
     let element = actions-at f sizes actions firsts nodes a (length actions) known in
-    let next : getD first-step (1 + a) 0 ≡ firstStep (placed f sizes actions firsts nodes) (1 + a) = p .numbered .numbers (1 + a) (omega (arith, at-length element)) in
     let one : 1 + a ≡ suc a = omega arith in
-    let end : getD first-step (1 + a) 0 ≡ firstStep (placed f sizes actions firsts nodes) a + stepCount x = next ∙ ap (firstStep (placed f sizes actions firsts nodes)) one ∙ total-next stepCount element in
-    rw (e, o, oe, n, r)
+    let after = n ∙ ap (λ (k : ℕ). getD first-step k 0) one ∙ p .numbered .numbers (suc a) (omega (arith, at-length element)) ∙ total-next stepCount element in
+    rw (e, o, oe, r, after)
     (record {
-      well-formed = p .well-formed a known;
+      well-formed = p .well-formed a known .nodes;
       inside = inside;
-      edged = record { edges = p .numbered .edges element; end-is = omega (arith, end) };
+      edges = p .numbered .edges element;
+      next-is = omega arith;
+      few = omega (arith, total-take stepCount element, p .few);
+      fits = omega arith;
     })
 
 -- The first i entries of the list come from actions that lead from the state `from` to s with this sum, and that are written at the front of a buffer.
@@ -201,7 +196,6 @@ module _ {f sizes actions firsts nodes : List ℕ} {goal : Partial} {list : List
         let p = subst₂ (λ (k : ℕ) (z : List ℕ). Action-passed f sizes k z s list i after next′ cost) e o passed in
         let element = actions-at f sizes actions firsts nodes a (length actions) known in
         let x = actionIn f sizes (getD actions a 0) (drop (getD firsts a 0) nodes) in
-        let one : 1 + getD list i 0 ≡ suc (firstStep (placed f sizes actions firsts nodes) a) = omega (arith, start) in
         record {
           done = g .done ++ (a ∷ []);
           wrote = wrote-entry a (omega (arith, g .wrote .count)) (g .wrote);
@@ -216,10 +210,11 @@ module _ {f sizes actions firsts nodes : List ℕ} {goal : Partial} {list : List
               ∙ g .runs (a ∷ rest)
               ∙ rw (lt-ltb a (length actions) known, ← p .moves, add-one count);
           comes = λ rest h.
-              let path : drop (suc i) list ≡ pathSteps (suc (firstStep (placed f sizes actions firsts nodes) a)) 1 (x .nodes) 1 s ++ expandFrom (placed f sizes actions firsts nodes) rest (apply (x .eff) s) =
-              p .passed .entries ∙ ap₂ (λ (k : ℕ) (z : List ℕ). pathSteps k 1 (x .nodes) 1 s ++ z) one (h ∙ ap (expandFrom (placed f sizes actions firsts nodes) rest) (p .state)) in
               let whole : expandFrom (placed f sizes actions firsts nodes) (a ∷ rest) s ≡ actionList (firstStep (placed f sizes actions firsts nodes) a) x s ++ expandFrom (placed f sizes actions firsts nodes) rest (apply (x .eff) s) = rw (look element, expandFrom) in
-              g .comes (a ∷ rest) (drop-cons list i 0 l ∙ ap₂ (λ (r : ℕ) (z : List ℕ). r ∷ z) start path ∙ sym whole)
+              g .comes (a ∷ rest)
+              (p .passed .entries
+              ∙ ap₂ (λ (r : ℕ) (z : List ℕ). entriesOf r (x .nodes) s ++ z) start (h ∙ ap (expandFrom (placed f sizes actions firsts nodes) rest) (p .state))
+              ∙ sym whole)
               ∙ ap (λ (z : List ℕ). expandFrom (placed f sizes actions firsts nodes) z from) (sym (append-assoc (g .done) (a ∷ []) rest));
         }
 
@@ -250,6 +245,7 @@ module _ (f : List ℕ) {i : Index} (ready : Ready f i) where
   followable {action-of = action-of} e n noted = record {
     well-formed = actions-wf f ready e;
     numbered = n;
+    few = omega (arith, ap (total stepCount) (actions-are f ready e), steps-few f ready);
     noted = subst (λ (xs : List Action). Noted xs action-of) (sym (actions-are f ready e)) (noted .noted t (reads f ready));
   }
 

@@ -18,11 +18,12 @@ ghost use lib.ListN.{length, getD};
 ghost use Rattle.facts.specs.State.{Inside};
 ghost use Rattle.taskfile.specs.Index.{Ready};
 ghost use Rattle.taskfile.specs.Task.{maxList};
-ghost use Rattle.taskfile.specs.WalkInPlace.{nodeCount, maxPassed};
-ghost use Rattle.carry.specs.Follow.{Traced, PathTo, ActionTo, Followable, PlanTo, ContractsTo};
+ghost use Rattle.taskfile.specs.WalkInPlace.{maxPassed};
+ghost use Rattle.taskfile.specs.PartsInPlace.{nodesIn, actionIn};
+ghost use Rattle.carry.specs.Follow.{Walkable, PathTo, ActionTo, Followable, PlanTo, ContractsTo};
 
-// Where the entries of an action end in a list, and what it costs; or the list has others.
-pub enum Path {
+// Where the entries of an action end in a list, and what it costs; or the list has other entries.
+pub enum Trail {
     To(usize, u32),
     Astray,
 }
@@ -115,18 +116,18 @@ fn follow_list(
             offset_at(action_at, number),
             &node_at[first..],
             &first_edge[first..],
-            offset_at(first_step, action) - 1,
+            offset_at(first_step, action),
             state,
             list,
             i,
         );
-        let Path::To(next, cost) = answer else {
+        let Trail::To(end, cost) = answer else {
             return Followed::Astray;
         };
         actions[count] = number as u16;
         count += 1;
         sum += cost;
-        i = next;
+        i = end;
     }
     if holds_at(file, goal, state) {
         return Followed::Plan(count, sum);
@@ -134,43 +135,42 @@ fn follow_list(
     Followed::Astray
 }
 
-// Follows the action at an offset, whose start is the list's entry `from`: its precondition holds, its walk's entries come next, and its effect is set.
+// Follows the action at an offset, whose start is the list's entry `from`, and where the next action would start with step `next`: its precondition holds, its walk's entries come next, and its effect is set.
 fn follow_action(
     file: &[u8],
     sizes: &[u8],
     at: usize,
     nodes: &[usize],
     first_edge: &[usize],
-    end: usize,
+    next: usize,
     state: &mut [u8],
     list: &[u16],
     from: usize,
-) -> Path
-    requires { ⌜ Traced (now file) (now sizes) at (now nodes) (now «first_edge») end (now state) (1 + getD (now list) from 0) × (from < length (now list)) ⌝ }
+) -> Trail
+    requires { ⌜ Walkable (now sizes) (actionIn (now file) (now sizes) at (now nodes) .nodes) (now «first_edge») (getD (now list) from 0) next (now state) × (from < length (now list)) ⌝ }
     ensures { λ r. ⌜ ActionTo (now (file .entry)) (now (sizes .entry)) at (now (nodes .entry)) (now (state .entry)) (now (list .entry)) from (now (state .exit)) r ⌝ }
 {
     match held_at(file, at, state) {
-        Held::Not => Path::Astray,
+        Held::Not => Trail::Astray,
         Held::Ends(effect) => {
             let diagram = diagram_past(file, effect);
             let path = follow_path(
                 file,
                 sizes,
-                at,
                 nodes,
                 diagram.count,
                 first_edge,
-                end,
+                next,
                 state,
                 list,
                 from,
             );
-            let Path::To(next, cost) = path else {
-                return Path::Astray;
+            let Trail::To(end, cost) = path else {
+                return Trail::Astray;
             };
             apply_at(file, effect, state);
             let incoming = diagram.incoming;
-            Path::To(next, incoming + cost)
+            Trail::To(end, incoming + cost)
         }
     }
 }
@@ -180,17 +180,16 @@ fn follow_action(
 fn follow_path(
     file: &[u8],
     sizes: &[u8],
-    at: usize,
     nodes: &[usize],
     count: usize,
     first_edge: &[usize],
-    end: usize,
+    next: usize,
     state: &[u8],
     list: &[u16],
     from: usize,
-) -> Path
-    requires { ⌜ Traced (now file) (now sizes) at (now nodes) (now «first_edge») end (now state) (1 + getD (now list) from 0) × (count ≡ nodeCount (now file) at) × (count ≤ maxPassed) × (from < length (now list)) ⌝ }
-    ensures { λ r. ⌜ PathTo (now (file .entry)) (now (sizes .entry)) at (now (nodes .entry)) (now (state .entry)) (now (list .entry)) from r ⌝ }
+) -> Trail
+    requires { ⌜ Walkable (now sizes) (nodesIn (now file) (now sizes) (now nodes) 0 count) (now «first_edge») (getD (now list) from 0) next (now state) × (count ≤ maxPassed) × (from < length (now list)) ⌝ }
+    ensures { λ r. ⌜ PathTo (now (file .entry)) (now (sizes .entry)) (now (nodes .entry)) count (now (state .entry)) (now (list .entry)) from r ⌝ }
 {
     let mut cost: u32 = 0;
     let mut i = 1 + from;
@@ -200,17 +199,17 @@ fn follow_path(
         let node = offset_at(nodes, j);
         let value = past(list, i, offset_at(first_edge, j));
         if byte_at(state, byte_at(file, node) as usize) as usize != value {
-            return Path::Astray;
+            return Trail::Astray;
         }
         let edge = edge_for(file, node, value as u8);
         cost += edge.weight;
         i += 1;
         k = edge.target;
     }
-    if past(list, i, end) != 0 {
-        return Path::Astray;
+    if past(list, i, next - 1) != 0 {
+        return Trail::Astray;
     }
-    Path::To(i + 1, cost)
+    Trail::To(i + 1, cost)
 }
 
 // How far past a step the entry at an index lies; more than any value where it is no later step, or not there.

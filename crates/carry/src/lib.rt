@@ -1,5 +1,4 @@
 // Plans carried across between a task file and the probe file written from it, at the same sum.
-mod entries;
 mod follow;
 mod path;
 mod plan;
@@ -118,7 +117,8 @@ fn contract_in(file: &[u8], task: Task, list: &[u16], out: &mut [u16]) -> Carrie
             if out.len() < count {
                 return Carried::Refused(Refusal::Short(count));
             }
-            Carried::List(entries::put(&actions[..count], out), sum)
+            plan::put_entries(&actions[..count], out);
+            Carried::List(count, sum)
         }
     }
 }

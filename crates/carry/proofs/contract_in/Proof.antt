@@ -7,6 +7,7 @@ use lib.ListN.{length, take}
 use lib.Seq.{length-take-le}
 use denote.Ref.{now}
 use Rattle.facts.specs.Read.{accepted}
+use Rattle.facts.specs.Write.{Wrote}
 use Rattle.carry.specs.CarryFile.{contracted}
 use Rattle.carry.specs.AnswerLaws.{short-in, wrote-in}
 use Rattle.carry.specs.Follow.{ContractsTo}
@@ -33,7 +34,10 @@ room : (c : tie.Else1) → length (take (c .before .before .count .given .0 .0) 
 room c = omega (arith, long (c .before .before), c .if1 .left)
 
 returns-3 : tie.Need-returns-3
-returns-3 c = let r = wrote-in (carried (c .before .before .before .before .before .before .before) .1) (room (c .before .before .before .before .before)) (c .before .before .put .ensures) in (sym (r .0), sym (r .1))
+returns-3 c =
+    let w : Wrote (take (c .before .before .before .before .before .before .before .count .given .0 .0) (noted (c .before .before .before .before .before .before .before))) (now (c .before .before .before .before .before .before .before .before .before .before .before .before .before .before .before .args .out)) (c .before .before .put-entries .last .1 .0) (c .before .before .before .before .before .before .before .count .given .0 .0) = record { count = sym (long (c .before .before .before .before .before .before .before)); buffer = c .before .before .put-entries .ensures .buffer } in
+    let r = wrote-in (carried (c .before .before .before .before .before .before .before) .1) (room (c .before .before .before .before .before)) w in
+    (sym (r .0), sym (r .1))
 
 pub contract-in-spec : {M : Type 1} → statement M
 contract-in-spec =

@@ -7,11 +7,11 @@ use denote.Ref.{now}
 use lib.ListN.{length, getD, take, drop}
 use Rattle.facts.specs.Partial.{partialAt}
 use Rattle.taskfile.specs.MoveInPlaceLaws.{own-nodes}
-use Rattle.taskfile.specs.PartsInPlace.{actionsIn}
+use Rattle.taskfile.specs.PartsInPlace.{actionIn, actionsIn}
 use Rattle.plans.specs.Carry.{firstStep}
 use Rattle.carry.specs.NumberLaws.{actions-long}
-use Rattle.carry.specs.Follow.{Traced, ActionTo, Action-passed}
-use Rattle.carry.specs.FollowLaws.{noted-start, traced-there, Following, following-start, following-next, following-end}
+use Rattle.carry.specs.Follow.{Walkable, ActionTo, Action-passed}
+use Rattle.carry.specs.FollowLaws.{noted-start, walkable-there, Following, following-start, following-next, following-end}
 use borrow.Author.Needs.{needs}
 use Rattle.carry.proofs.follow.follow_list.Statement.{statement}
 use Rattle.carry.proofs.follow.follow_list.Tie as tie
@@ -46,15 +46,15 @@ own-edge c =
     own-nodes (now (a .first-edge)) n (c .offset-within .ensures ∙ ap (min n) (c .before .before .before .before .before .before .before .before .before .before .before .before .before .before .before .before .before .before .pre .1 .0))
 
 -- the start of the next action, past this one's end
-end-is : (c : tie.After-offset-at2 Inv-loop μ-loop) → c .offset-at2 .result ≡ getD (now (c .before .before .before .before .before .before .before .before .before .before .before .before .before .before .before .before .before .before .before .before .before .before .args .first-step)) (1 + (c .before .before .before .before .before .before .before .byte-at .result - 1)) 0
-end-is c = let same : c .before .before .before .before .before .before .before .byte-at .result ≡ 1 + (c .before .before .before .before .before .before .before .byte-at .result - 1) = omega (arith, c .before .before .before .before .before .before .if1 .left) in c .offset-at2 .ensures ∙ ap (λ (k : ℕ). getD (now (c .before .before .before .before .before .before .before .before .before .before .before .before .before .before .before .before .before .before .before .before .before .before .args .first-step)) k 0) same
+next-is : (c : tie.After-offset-at2 Inv-loop μ-loop) → c .offset-at2 .result ≡ getD (now (c .before .before .before .before .before .before .before .before .before .before .before .before .before .before .before .before .before .before .before .before .before .before .args .first-step)) (1 + (c .before .before .before .before .before .before .before .byte-at .result - 1)) 0
+next-is c = let same : c .before .before .before .before .before .before .before .byte-at .result ≡ 1 + (c .before .before .before .before .before .before .before .byte-at .result - 1) = omega (arith, c .before .before .before .before .before .before .if1 .left) in c .offset-at2 .ensures ∙ ap (λ (k : ℕ). getD (now (c .before .before .before .before .before .before .before .before .before .before .before .before .before .before .before .before .before .before .before .before .before .before .args .first-step)) k 0) same
 
 -- what the action is followed by
-traced : (c : tie.After-offset-at2 Inv-loop μ-loop) → let a = c .before .before .before .before .before .before .before .before .before .before .before .before .before .before .before .before .before .before .before .before .before .before .args in
-    Traced (now (a .file)) (now (a .sizes)) (c .before .before .before .offset-at .result) (lent (now (a .node-at)) (c .before .before .before .before .offset-within .result)) (lent (now (a .first-edge)) (c .before .before .before .before .offset-within .result)) (c .offset-at2 .result - 1) (c .before .before .before .before .before .before .before .before .before .before .loop .state) (1 + getD (now (a .list)) (c .before .before .before .before .before .before .before .before .before .before .loop .i) 0)
-traced c =
+walkable : (c : tie.After-offset-at2 Inv-loop μ-loop) → let a = c .before .before .before .before .before .before .before .before .before .before .before .before .before .before .before .before .before .before .before .before .before .before .args in
+    Walkable (now (a .sizes)) (actionIn (now (a .file)) (now (a .sizes)) (c .before .before .before .offset-at .result) (lent (now (a .node-at)) (c .before .before .before .before .offset-within .result)) .nodes) (lent (now (a .first-edge)) (c .before .before .before .before .offset-within .result)) (getD (now (a .list)) (c .before .before .before .before .before .before .before .before .before .before .loop .i) 0) (c .offset-at2 .result) (c .before .before .before .before .before .before .before .before .before .before .loop .state)
+walkable c =
     let w = c .before .before .before .before in
-    traced-there (c .before .before .before .before .before .before .before .before .before .before .before .before .before .before .before .before .before .before .before .before .before .before .pre .0 .0) (c .before .before .before .before .before .before .before .before .before .before .loop .inv .inside) (starts w .0) (c .before .before .before .offset-at .ensures) (own w) (own-edge w) (ap (λ (k : ℕ). k - 1) (end-is c)) (starts w .1)
+    walkable-there (c .before .before .before .before .before .before .before .before .before .before .before .before .before .before .before .before .before .before .before .before .before .before .pre .0 .0) (c .before .before .before .before .before .before .before .before .before .before .loop .inv .inside) (starts w .0) (c .before .before .before .offset-at .ensures) (own w) (own-edge w) (next-is c) (starts w .1)
 
 -- the action is followed
 passed : (c : tie.After-answer Inv-loop μ-loop) → let a = c .before .before .before .before .before .before .before .before .before .before .before .before .before .before .before .before .before .before .before .before .before .before .before .before .before .before .before .before .args in let l = c .before .before .before .before .before .before .before .before .before .before .before .before .before .before .before .before .loop in
@@ -100,8 +100,7 @@ follow-list-spec =
     (λ c. omega (arith, c .before .before .offset-within .ensures, c .before .before .before .before .before .before .before .before .before .before .before .before .before .before .before .before .before .before .before .before .pre .1 .0))
     (λ c. search needs)
     (λ c κs. search needs)
-    (λ c. omega (arith, traced c .edged .end-is))
-    (λ c κs. (traced (c .before), c .before .before .before .before .before .before .before .before .before .before .loop-test .taken))
+    (λ c κs. (walkable (c .before), c .before .before .before .before .before .before .before .before .before .before .loop-test .taken))
     (λ c. search needs)
     (λ c. search needs)
     (λ c. c .before .before .before .state .given ∙ c .before .before .before .before .before .before .before .before .before .before .before .before .before .before .before .before .loop .inv .keeps)
