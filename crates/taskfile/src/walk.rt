@@ -62,7 +62,7 @@ pub fn diagram_at(file: &[u8], at: usize) -> Diagram
 }
 
 // The same, of the action whose effect is at an offset.
-fn diagram_past(file: &[u8], effect: usize) -> Diagram
+pub fn diagram_past(file: &[u8], effect: usize) -> Diagram
     ensures { λ r. ⌜ (r .incoming ≡ wordAt (now (file .entry)) (pastPartial (now (file .entry)) effect)) × (r .count ≡ countPast (now (file .entry)) effect) × (r .incoming ≤ maxWeight) × (r .count ≤ maxPassed) ⌝ }
 {
     if file.len() < effect {
