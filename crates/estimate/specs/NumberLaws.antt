@@ -258,3 +258,19 @@ sum-never-first b e = sym (ap (λ x. sum x b) e)
 
 pub sum-never-second : (a : Number) {b : Number} → b ≡ never → never ≡ sum a b
 sum-never-second a e = sym (ap (sum a) e ∙ sum-never a)
+
+pub never-sum : {a : Number} (b : Number) → a ≡ never → a ≡ sum a b
+never-sum b e = e ∙ sym (ap (λ x. sum x b) e)
+
+module _ {a b : Number} {x y : ℕ} (p : a ≡ exact x) (q : b ≡ exact y) where
+  pub sum-exact : x + y ≤ largest → exact (x + y) ≡ sum a b
+  sum-exact h = sym (ap₂ sum p q ∙ capped-exact (x + y) (x + y) refl h)
+
+  pub sum-over : largest < x + y → over ≡ sum a b
+  sum-over h = sym (ap₂ sum p q ∙ capped-over (x + y) h)
+
+  pub lesser-first : x ≤ y → exact x ≡ lesser a b
+  lesser-first h = let e : x ≡ min x y = omega arith in ap exact e ∙ sym (ap₂ lesser p q)
+
+  pub lesser-second : y ≤ x → exact y ≡ lesser a b
+  lesser-second h = let e : y ≡ min x y = omega arith in ap exact e ∙ sym (ap₂ lesser p q)

@@ -4,6 +4,8 @@ pub mod ranks;
 
 use facts::Refusal;
 use ranks::rank;
+ghost use mathlib.Core.Path.{_≡_};
+ghost use Rattle.estimate.specs.Number.{number, sum, lesser};
 ghost use Rattle.estimate.specs.Facts.{HasNumbers, startNumber};
 ghost use Rattle.estimate.specs.Ranks.{rankNumber, HasRanks, startedOver};
 
@@ -22,6 +24,50 @@ pub enum Estimated {
 
 // The largest exact number; above it a number is over.
 const LARGEST: u32 = 4294967295;
+
+// The sum of two numbers.
+pub fn sum(a: Est, b: Est) -> Est
+    ensures { λ r. ⌜ number r ≡ sum (number a) (number b) ⌝ }
+{
+    match a {
+        Est::Never => a, // never plus anything is never
+        Est::Over => match b {
+            Est::Never => b,
+            Est::Over => b,
+            Est::Exact(_) => a,
+        },
+        Est::Exact(x) => match b {
+            Est::Never => b,
+            Est::Over => b,
+            Est::Exact(y) => {
+                if y <= LARGEST - x {
+                    Est::Exact(x + y)
+                } else {
+                    Est::Over
+                }
+            }
+        },
+    }
+}
+
+// The lesser of two numbers.
+pub fn lesser(a: Est, b: Est) -> Est
+    ensures { λ r. ⌜ number r ≡ lesser (number a) (number b) ⌝ }
+{
+    match a {
+        Est::Never => b,
+        Est::Over => match b {
+            Est::Never => a,
+            Est::Over => a,
+            Est::Exact(_) => b,
+        },
+        Est::Exact(x) => match b {
+            Est::Never => a,
+            Est::Over => a,
+            Est::Exact(y) => { if y < x { b } else { a } }
+        },
+    }
+}
 
 // The array of facts has room for so many variables, for so many values of each, and for so many facts.
 pub const VARIABLES: usize = 57;

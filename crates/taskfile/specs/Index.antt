@@ -5,11 +5,8 @@ use mathlib.Core.List.{List}
 use lib.Dec.{leb}
 use lib.ListN.{length}
 use Rattle.facts.specs.Read.{Read, accepted, check, _>>=_}
-use Rattle.facts.specs.Answers.{checkedAnswer}
-use Rattle.taskfile.specs.declared.Indexed.{Indexed}
 use Rattle.taskfile.specs.declared.Task.{Task}
 use Rattle.taskfile.specs.Task.{maxActions, maxNodes}
-use Rattle.taskfile.specs.TaskFile.{checkTask}
 use Rattle.taskfile.specs.InPlace.{taskAt, Located}
 
 -- the index of an accepted file
@@ -31,8 +28,3 @@ indexAnswer f starts firsts nodes = do
 -- where that is no refusal, the rows are the index
 pub record Rows (f : List ℕ) (answer : Read (ℕ × ℕ)) (starts firsts nodes : List ℕ) : Type 0 where
   pub located : {n k : ℕ} → answer ≡ accepted (n, k) → Located f starts firsts nodes
-
--- the answer is the check's, and where the file is accepted the index is its index
-pub record IndexOf (f : List ℕ) (r : Indexed) : Type 0 where
-  pub answer : checkedAnswer (r .answer) ≡ checkTask f
-  pub ready : checkTask f ≡ accepted tt → Ready f (r .task)

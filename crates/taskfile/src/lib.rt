@@ -4,14 +4,13 @@ mod diagram;
 mod index;
 pub mod walk;
 
-use facts::Checked;
 use facts::Refusal;
 ghost use mathlib.Core.Path.{_≡_};
 ghost use lib.ListN.{length};
 ghost use Rattle.taskfile.specs.Answers.{countedAnswer};
-ghost use Rattle.taskfile.specs.Index.{IndexOf, indexAnswer, Rows};
+ghost use Rattle.taskfile.specs.Index.{indexAnswer, Rows};
 
-// Where the parts of an accepted task file stand: how many variables and actions it has, where each action starts, which of all nodes is its first, and where each node starts.
+// A task by its index: how many variables and actions it has, where each action starts, which of all nodes is its first, and where each node starts. Code lends the rows and does not hand a `Task` on.
 pub struct Task {
     pub variables: usize,
     pub actions: usize,
@@ -34,12 +33,6 @@ impl Task {
     pub const MAX_LIST: usize = 256;
 }
 
-// The index of a file, and whether it is accepted.
-pub struct Indexed {
-    pub answer: Checked,
-    pub task: Task,
-}
-
 // Where the next field starts, and how many nodes the diagram before it has.
 pub enum Drawn {
     Next(usize, usize),
@@ -50,38 +43,6 @@ pub enum Drawn {
 pub enum Counted {
     Actions(usize, usize),
     Refused(Refusal),
-}
-
-// Where the parts of a task file stand, if it is accepted.
-pub fn index_of(file: &[u8]) -> Indexed
-    ensures { λ r. ⌜ IndexOf (now (file .entry)) r ⌝ }
-{
-    let mut action_at = [0; 32];
-    let mut first_node = [0; 32];
-    let mut node_at = [0; 64];
-    let counted = index::index_into(file, &mut action_at, &mut first_node, &mut node_at);
-    match counted {
-        Counted::Refused(why) => Indexed {
-            answer: Checked::Refused(why),
-            task: Task {
-                variables: 0,
-                actions: 0,
-                starts: action_at,
-                firsts: first_node,
-                nodes: node_at,
-            },
-        },
-        Counted::Actions(variables, actions) => Indexed {
-            answer: Checked::Accepted,
-            task: Task {
-                variables: variables,
-                actions: actions,
-                starts: action_at,
-                firsts: first_node,
-                nodes: node_at,
-            },
-        },
-    }
 }
 
 // The index of a file, noted in lent rows: how many variables and actions there are, or the refusal; 7 with the length needed for a row that is too short.

@@ -27,52 +27,52 @@ begins : (c : tie.Start) → Starts (now (c .args .file)) (c .pre .0)
 begins c = starts (now (c .args .file)) (c .pre .0)
 
 -- the domain sizes as they stand
-sizes-are : (c : tie.Start) → take (1 + c .args .task .variables - 1) (drop 1 (now (c .args .file))) ≡ task c .task .sizes
-sizes-are c = let same : 1 + c .args .task .variables - 1 ≡ c .args .task .variables = omega arith in ap (λ (k : ℕ). take k (drop 1 (now (c .args .file)))) same ∙ begins c .sizes
+sizes-are : (c : tie.Start) → take (1 + c .args .variables - 1) (drop 1 (now (c .args .file))) ≡ task c .task .sizes
+sizes-are c = let same : 1 + c .args .variables - 1 ≡ c .args .variables = omega arith in ap (λ (k : ℕ). take k (drop 1 (now (c .args .file)))) same ∙ begins c .sizes
 
 -- the offset of each action
-few : (c : tie.Start) → c .args .task .actions ≤ length (c .args .task .starts)
+few : (c : tie.Start) → c .args .actions ≤ length (now (c .args .starts))
 few c = omega (arith, begins c .actions, c .pre .0 .starts-long)
 
-starts-long : (c : tie.Start) → length (take (c .args .task .actions) (c .args .task .starts)) ≡ c .args .task .actions
-starts-long c = length-take-le (c .args .task .actions) (c .args .task .starts) (few c)
+starts-long : (c : tie.Start) → length (take (c .args .actions) (now (c .args .starts))) ≡ c .args .actions
+starts-long c = length-take-le (c .args .actions) (now (c .args .starts)) (few c)
 
 -- the state has a value for each variable, and they are the initial ones
-long : (c : tie.After-initial) → c .before .before .before .before .before .before .before .before .before .before .before .before .before .before .before .before .before .before .before .args .task .variables ≤ length (c .initial .result)
-long c = omega (arith, c .initial .ensures .1, begins (c .before .before .before .before .before .before .before .before .before .before .before .before .before .before .before .before .before .before .before) .variables)
+long : (c : tie.After-initial) → c .before .before .before .before .before .before .before .before .before .before .before .before .before .before .before .before .before .args .variables ≤ length (c .initial .result)
+long c = omega (arith, c .initial .ensures .1, begins (c .before .before .before .before .before .before .before .before .before .before .before .before .before .before .before .before .before) .variables)
 
-state-is : (c : tie.After-initial) → take (c .before .before .before .before .before .before .before .before .before .before .before .before .before .before .before .before .before .before .before .args .task .variables) (c .initial .result) ≡ task (c .before .before .before .before .before .before .before .before .before .before .before .before .before .before .before .before .before .before .before) .task .init
-state-is c = c .initial .ensures .0 ∙ begins (c .before .before .before .before .before .before .before .before .before .before .before .before .before .before .before .before .before .before .before) .init
+state-is : (c : tie.After-initial) → take (c .before .before .before .before .before .before .before .before .before .before .before .before .before .before .before .before .before .args .variables) (c .initial .result) ≡ task (c .before .before .before .before .before .before .before .before .before .before .before .before .before .before .before .before .before) .task .init
+state-is c = c .initial .ensures .0 ∙ begins (c .before .before .before .before .before .before .before .before .before .before .before .before .before .before .before .before .before) .init
 
 -- an action begins within the file
-begin : (c : tie.Start) (a : ℕ) → a < length (take (c .args .task .actions) (c .args .task .starts)) → getD (take (c .args .task .actions) (c .args .task .starts)) a 0 ≤ length (now (c .args .file))
+begin : (c : tie.Start) (a : ℕ) → a < length (take (c .args .actions) (now (c .args .starts))) → getD (take (c .args .actions) (now (c .args .starts))) a 0 ≤ length (now (c .args .file))
 begin c a h = omega (arith, actions-stood (now (c .args .file)) (c .pre .0) (sizes-are c) a h .pre .fits)
 
 put-list-requires : tie.Need-put-list-requires
 put-list-requires c κs =
-    let s = c .before .before .before .before .before .before .before .before .before .before .before .before .before .before .before .before .before .before .before .before .before .before .before .before .before .before in
+    let s = c .before .before .before .before .before .before .before .before .before .before .before .before .before .before .before .before .before .before .before .before .before .before in
     let f = now (s .args .file) in
-    ((prepared f (s .pre .0) (sizes-are s) (c .before .before .before .before .before .before .before .before .before .note-incoming .ensures) (c .before .before .before .before .before .before .before .before .before .before .before .first-edge2 .given) (c .before .before .before .before .before .before .before .before .before .before .before .before .before .number-steps .ensures), init-inside f (s .pre .0) (sizes-are s) (state-is (c .before .before .before .before .before .before .before))), (s .pre .1, s .pre .2))
+    ((prepared f (s .pre .0) (sizes-are s) (c .before .before .before .before .before .before .before .note-incoming .ensures) (c .before .before .before .before .before .before .before .before .before .first-edge2 .given) (c .before .before .before .before .before .before .before .before .before .before .before .number-steps .ensures), init-inside f (s .pre .0) (sizes-are s) (state-is (c .before .before .before .before .before))), (s .pre .1, s .pre .2))
 
 -- what the run of the list answers
-ran : (c : tie.After-put-list) → let a = c .before .before .before .before .before .before .before .before .before .before .before .before .before .before .before .before .before .before .before .before .before .before .before .before .before .before .before .args in ranAnswer (c .put-list .result .answer) ≡ runTask (now (a .file)) (now (a .list))
+ran : (c : tie.After-put-list) → let a = c .before .before .before .before .before .before .before .before .before .before .before .before .before .before .before .before .before .before .before .before .before .before .before .args in ranAnswer (c .put-list .result .answer) ≡ runTask (now (a .file)) (now (a .list))
 ran c =
-    let s = c .before .before .before .before .before .before .before .before .before .before .before .before .before .before .before .before .before .before .before .before .before .before .before .before .before .before .before in
+    let s = c .before .before .before .before .before .before .before .before .before .before .before .before .before .before .before .before .before .before .before .before .before .before .before in
     let f = now (s .args .file) in
     let list = now (s .args .list) in
-    let t = s .args .task in
-    let begins = take (t .actions) (t .starts) in
-    c .put-list .ensures .0 ∙ ap (λ (state : List ℕ). runList (length begins) (moveAt f begins (t .firsts) (t .nodes)) (partialAt f (1 + 2 * t .variables)) list state) (c .before .before .before .before .before .before .before .before .initial .ensures .0) ∙ sym (run-is f (s .pre .0) list)
+    let t = s .args in
+    let begins = take (t .actions) (now (t .starts)) in
+    c .put-list .ensures .0 ∙ ap (λ (state : List ℕ). runList (length begins) (moveAt f begins (now (t .firsts)) (now (t .nodes))) (partialAt f (1 + 2 * t .variables)) list state) (c .before .before .before .before .before .before .initial .ensures .0) ∙ sym (run-is f (s .pre .0) list)
 
 returns : tie.Need-returns
 returns c =
-    let s = c .before .before .before .before .before .before .before .before .before .before .before .before .before .before .before .before .before .before .before .before .before .before .before .before .before .before .before .before .before .before in
+    let s = c .before .before .before .before .before .before .before .before .before .before .before .before .before .before .before .before .before .before .before .before .before .before .before .before .before .before in
     let put = c .before .before .before in (
       ran put,
       record {
         wrote = λ h.
             subst (λ (l : List ℕ). Wrote l (now (s .args .out)) (put .put-list .last .1 .1 .1 .1 .1 .1 .1 .1 .1 .1 .1 .0) (put .put-list .result .written))
-            (entries-are (now (s .args .file)) (s .pre .0) (now (s .args .list)) h (sizes-are s) (state-is (c .before .before .before .before .before .before .before .before .before .before .before))) (put .put-list .ensures .1 .wrote (ran put ∙ h));
+            (entries-are (now (s .args .file)) (s .pre .0) (now (s .args .list)) h (sizes-are s) (state-is (c .before .before .before .before .before .before .before .before .before))) (put .put-list .ensures .1 .wrote (ran put ∙ h));
       },
     )
 
@@ -84,25 +84,20 @@ put-plan-spec =
     (λ c. search needs)
     (λ c. search needs)
     (λ c. omega (arith, begins (c .before .before .before .before .before .before) .fits))
-    (λ c. few (c .before .before .before .before .before .before .before))
     (λ c. sym (starts-long (c .before .before .before .before .before .before .before .before)))
     (λ c. search needs)
     (λ c. search needs)
+    (λ c κs. let s = c .before .before .before .before .before .before .before .before .before .before in (omega (arith, starts-long s, begins s .actions), rows-there (now (s .args .file)) (s .pre .0) (sizes-are s) (omega arith)))
     (λ c. search needs)
-    (λ c. search needs)
-    (λ c κs. let s = c .before .before .before .before .before .before .before .before .before .before .before .before in (omega (arith, starts-long s, begins s .actions), rows-there (now (s .args .file)) (s .pre .0) (sizes-are s) (omega arith)))
-    (λ c. search needs)
-    (λ c κs. let s = c .before .before .before .before .before .before .before .before .before .before .before .before .before .before .before .before in (omega (arith, starts-long s, begins s .actions), begin s))
-    (λ c κs. let b = begins (c .before .before .before .before .before .before .before .before .before .before .before .before .before .before .before .before .before .before) in (b .variables, b .fits))
-    (λ c. omega (arith, begins (c .before .before .before .before .before .before .before .before .before .before .before .before .before .before .before .before .before .before .before) .variables))
-    (λ c. omega (arith, begins (c .before .before .before .before .before .before .before .before .before .before .before .before .before .before .before .before .before .before .before) .variables))
-    (λ c. search needs)
+    (λ c κs. let s = c .before .before .before .before .before .before .before .before .before .before .before .before .before .before in (omega (arith, starts-long s, begins s .actions), begin s))
+    (λ c κs. let b = begins (c .before .before .before .before .before .before .before .before .before .before .before .before .before .before .before .before) in (b .variables, b .fits))
+    (λ c. omega (arith, begins (c .before .before .before .before .before .before .before .before .before .before .before .before .before .before .before .before .before) .variables))
+    (λ c. omega (arith, begins (c .before .before .before .before .before .before .before .before .before .before .before .before .before .before .before .before .before) .variables))
     (λ c. search needs)
     (λ c. search needs)
     (λ c. search needs)
-    (λ c. search needs)
-    (λ c. long (c .before .before .before .before .before))
-    (λ c. sym (length-take-le (c .before .before .before .before .before .before .before .before .before .before .before .before .before .before .before .before .before .before .before .before .before .before .before .before .before .args .task .variables) (c .before .before .before .before .before .before .initial .result) (long (c .before .before .before .before .before .before))))
+    (λ c. long (c .before .before .before))
+    (λ c. sym (length-take-le (c .before .before .before .before .before .before .before .before .before .before .before .before .before .before .before .before .before .before .before .before .before .args .variables) (c .before .before .before .before .initial .result) (long (c .before .before .before .before))))
     put-list-requires
     (λ c. search needs)
     returns)
