@@ -255,10 +255,11 @@ fn targets_rise(
 fn level_of(sizes: &[u8], m: usize, levels: &[u8], k: usize) -> usize
     ensures { λ r. ⌜ r ≡ levelBy (length (now (sizes .entry))) m (now (levels .entry)) k ⌝ }
 {
+    let own = byte_at(levels, k) as usize; // looked up in any case, so that nothing waits for the test
     if m < k {
         return sizes.len();
     }
-    byte_at(levels, k) as usize
+    own
 }
 
 // The number before k, and 0 for 0.

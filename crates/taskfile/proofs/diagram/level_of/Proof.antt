@@ -9,13 +9,13 @@ returns : tie.Need-returns
 returns c = sym (level-terminal _ _ _ _ (c .if1 .taken))
 
 returns-2 : tie.Need-returns-2
-returns-2 c = c .byte-at .ensures ∙ sym (level-node _ _ _ _ (c .before .if1 .left))
+returns-2 c = c .before .byte-at .ensures ∙ sym (level-node _ _ _ _ (c .if1 .left))
 
 pub level-of-spec : {M : Type 1} → statement M
 level-of-spec =
     tie.close
     (tie.spec
-    returns
     (λ c κs. search needs)
     (λ c. search needs)
+    returns
     returns-2)
