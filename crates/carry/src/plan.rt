@@ -1,7 +1,7 @@
 // A list of actions run, and its probe list written in the same walk.
 use crate::path::put_action;
 use crate::starts::number_steps;
-use compile::length::note_incoming;
+use compile::count::note_incoming;
 use facts::Applied;
 use facts::Ran;
 use facts::Refusal;

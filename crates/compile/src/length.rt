@@ -3,7 +3,6 @@ use crate::count::edge_count;
 use facts::number::byte_at;
 use facts::number::offset_at;
 use facts::number::offset_within;
-use facts::partial::length_at;
 ghost use mathlib.Core.Path.{_≡_};
 ghost use Prim.Native.Nat.{ℕ, _+_, _*_, _≤_, _<_};
 ghost use lib.ListN.{length, getD, drop};
@@ -53,26 +52,4 @@ pub fn extent_of(
         a += 1;
     }
     Extent { steps, bytes }
-}
-
-// Notes where the incoming weight of each action stands: past its precondition and its effect.
-pub fn note_incoming(file: &[u8], action_at: &[usize], incoming_at: &mut [usize])
-    requires { ⌜ length (now «action_at») ≤ length (now «incoming_at») ⌝ }
-    requires { ⌜ ((a : ℕ) → a < length (now «action_at») → getD (now «action_at») a 0 ≤ length (now file)) ⌝ }
-    ensures { λ r. ⌜ ((a : ℕ) → a < length (now («action_at» .entry)) → getD (now («incoming_at» .exit)) a 0 ≡ incomingPlace (now (file .entry)) (getD (now («action_at» .entry)) a 0)) ⌝ }
-{
-    let mut a: usize = 0;
-    while a < action_at.len() {
-        incoming_at[a] = incoming_place(file, action_at[a]);
-        a += 1;
-    }
-}
-
-// Where the incoming weight of the action at an offset stands.
-fn incoming_place(file: &[u8], at: usize) -> usize
-    requires { ⌜ at ≤ length (now file) ⌝ }
-    ensures { λ r. ⌜ r ≡ incomingPlace (now (file .entry)) at ⌝ }
-{
-    let effect = at + length_at(file, at);
-    effect + length_at(file, effect)
 }

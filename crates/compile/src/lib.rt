@@ -2,7 +2,7 @@
 mod action;
 pub mod count;
 mod head;
-pub mod length;
+mod length;
 mod put;
 mod step;
 
@@ -55,7 +55,7 @@ fn compile_in(
     let sizes = &file[1..last];
     let action_at = &starts[..actions];
     let mut incoming = [0; 32];
-    length::note_incoming(file, action_at, &mut incoming);
+    count::note_incoming(file, action_at, &mut incoming);
     let extent = extent_of(file, sizes, action_at, &incoming, firsts, nodes);
     let needed = head::head_length(file, variables, actions) + extent.bytes;
     if out.len() < needed {

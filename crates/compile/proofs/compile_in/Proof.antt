@@ -7,13 +7,14 @@ use lib.ListN.{length, getD, take, drop}
 use lib.Seq.{length-take-le}
 use borrow.Rule.Slice.PartMut.{putMid}
 use Rattle.facts.specs.Write.{Wrote}
+use Rattle.taskfile.specs.WalkInPlace.{incomingPlace}
 use Rattle.taskfile.specs.TaskReadLaws.{task-wf, task-limits}
 use Rattle.taskfile.specs.AnswerLaws.{There, there, Starts, starts}
 use Rattle.probe.specs.ProbeFile.{writeProbe}
 use Rattle.compilation.specs.Compile.{probeOf}
 use Rattle.compilation.specs.StepLaws.{steps-most}
 use Rattle.compilation.specs.CompiledLengthLaws.{compiled-length}
-use Rattle.compile.specs.ExtentLaws.{weighs}
+use Rattle.compile.specs.ExtentLaws.{incoming-noted, weighs}
 use Rattle.taskfile.specs.PartsInPlaceLaws.{actions-stood, goal-stands}
 use Rattle.compile.specs.TaskInPlaceLaws.{steps-in-place, file-length, front-room, front-inside, steps-room, file-wrote, compile-short, compile-wrote}
 use borrow.Author.Needs.{needs}
@@ -50,11 +51,12 @@ limits c = (omega (arith, ap length (sizes-are c), task c .variables, begins c .
 begin : (c : tie.Start) (a : ℕ) → a < length (take (c .args .actions) (now (c .args .starts))) → getD (take (c .args .actions) (now (c .args .starts))) a 0 ≤ length (now (c .args .file))
 begin c a h = omega (arith, actions-stood (now (c .args .file)) (c .pre) (sizes-are c) a h .pre .fits)
 
-note-incoming-requires : tie.Need-note-incoming-requires
-note-incoming-requires c κs = let s = c .before .before .before .before .before .before .before .before in (limits s .1, begin s)
+-- where each incoming weight stands is noted
+noted : (c : tie.After-note-incoming) → let a = c .before .before .before .before .before .before .before .before .before .args in (k : ℕ) → k < length (take (a .actions) (now (a .starts))) → getD (c .note-incoming .last .1 .1 .0) k 0 ≡ incomingPlace (now (a .file)) (getD (take (a .actions) (now (a .starts))) k 0)
+noted c = let s = c .before .before .before .before .before .before .before .before .before in incoming-noted (now (s .args .file)) (c .note-incoming .ensures) (limits s .1) (begin s)
 
 extent-of-requires : tie.Need-extent-of-requires
-extent-of-requires c κs = let s = c .before .before .before .before .before .before .before .before .before .before .before in (limits s, (actions-stood (now (s .args .file)) (s .pre) (sizes-are s), c .before .before .note-incoming .ensures))
+extent-of-requires c κs = let s = c .before .before .before .before .before .before .before .before .before .before .before in (limits s, (actions-stood (now (s .args .file)) (s .pre) (sizes-are s), noted (c .before .before)))
 
 head-length-requires : tie.Need-head-length-requires
 head-length-requires c κs = let b = begins (c .before .before .before .before .before .before .before .before .before .before .before .before) in (b .variables, b .actions, b .fits)
@@ -83,7 +85,7 @@ put-head-requires c κs =
     let r = task s .reads in
     let count = c .before .before .before .before .before .extent-of .ensures .0 in (
       (begins s .variables, limits s .1, omega (arith, count, ap length (steps-in-place f (s .pre) (sizes-are s)), steps-most (task s .task) (task-wf f r) (task-limits f r)), goal-stands f (s .pre)),
-      ((λ a l. weighs f (actions-stood f (s .pre) (sizes-are s) a l) (c .before .before .before .before .before .before .before .before .note-incoming .ensures a l)), front-room f (s .pre) (sizes-are s) count (room (c .before .before))),
+      ((λ a l. weighs f (actions-stood f (s .pre) (sizes-are s) a l) (noted (c .before .before .before .before .before .before .before .before) a l)), front-room f (s .pre) (sizes-are s) count (room (c .before .before))),
     )
 
 -- the steps begin within the buffer
@@ -94,7 +96,7 @@ put-actions-requires : tie.Need-put-actions-requires
 put-actions-requires c κs =
     let s = c .before .before .before .before .before .before .before .before .before .before .before .before .before .before .before .before .before .before .before .before .before .before in
     let f = now (s .args .file) in
-    (limits s, ((actions-stood f (s .pre) (sizes-are s), c .before .before .before .before .before .before .before .before .before .before .before .before .before .note-incoming .ensures), steps-room f (s .pre) (sizes-are s) (c .before .before .before .before .before .before .before .before .before .before .extent-of .ensures .0) (room (c .before .before .before .before .before .before .before)) (c .before .before .before .before .put-head .ensures)))
+    (limits s, ((actions-stood f (s .pre) (sizes-are s), noted (c .before .before .before .before .before .before .before .before .before .before .before .before .before)), steps-room f (s .pre) (sizes-are s) (c .before .before .before .before .before .before .before .before .before .before .extent-of .ensures .0) (room (c .before .before .before .before .before .before .before)) (c .before .before .before .before .put-head .ensures)))
 
 -- the file is written
 wrote : (c : tie.After-put-actions) → let s = c .before .before .before .before .before .before .before .before .before .before .before .before .before .before .before .before .before .before .before .before .before .before .before in let front = c .before .before .before .before .before .put-head in Wrote (probe s) (now (s .args .out)) (putMid (front .result) (length (front .last .1 .1 .1 .1 .1 .0) - front .result) (front .last .1 .1 .1 .1 .1 .0) (c .put-actions .last .1 .1 .1 .1 .1 .1 .0)) (front .result + c .put-actions .result)
@@ -116,7 +118,7 @@ compile-in-spec =
     (λ c. omega (arith, begins (c .before .before .before .before .before) .fits))
     (λ c. sym (starts-long (c .before .before .before .before .before .before .before)))
     (λ c. search needs)
-    note-incoming-requires
+    (λ c κs. search needs)
     (λ c. search needs)
     extent-of-requires
     head-length-requires

@@ -13,6 +13,7 @@ use Rattle.taskfile.specs.TaskFile.{runTask}
 use Rattle.taskfile.specs.WalkInPlace.{moveAt, runList}
 use Rattle.taskfile.specs.AnswerLaws.{There, there, Starts, starts, run-is}
 use Rattle.taskfile.specs.PartsInPlaceLaws.{actions-stood}
+use Rattle.compile.specs.ExtentLaws.{incoming-noted}
 use Rattle.carry.specs.NumberLaws.{rows-there}
 use Rattle.carry.specs.ExpandLaws.{init-inside, prepared, entries-are}
 use borrow.Author.Needs.{needs}
@@ -52,7 +53,7 @@ put-list-requires : tie.Need-put-list-requires
 put-list-requires c κs =
     let s = c .before .before .before .before .before .before .before .before .before .before .before .before .before .before .before .before .before .before .before .before .before .before in
     let f = now (s .args .file) in
-    ((prepared f (s .pre .0) (sizes-are s) (c .before .before .before .before .before .before .before .note-incoming .ensures) (c .before .before .before .before .before .before .before .before .before .first-edge2 .given) (c .before .before .before .before .before .before .before .before .before .before .before .number-steps .ensures), init-inside f (s .pre .0) (sizes-are s) (state-is (c .before .before .before .before .before))), (s .pre .1, s .pre .2))
+    ((prepared f (s .pre .0) (sizes-are s) (incoming-noted f (c .before .before .before .before .before .before .before .note-incoming .ensures) (omega (arith, starts-long s, begins s .actions)) (begin s)) (c .before .before .before .before .before .before .before .before .before .first-edge2 .given) (c .before .before .before .before .before .before .before .before .before .before .before .number-steps .ensures), init-inside f (s .pre .0) (sizes-are s) (state-is (c .before .before .before .before .before))), (s .pre .1, s .pre .2))
 
 -- what the run of the list answers
 ran : (c : tie.After-put-list) → let a = c .before .before .before .before .before .before .before .before .before .before .before .before .before .before .before .before .before .before .before .before .before .before .before .args in ranAnswer (c .put-list .result .answer) ≡ runTask (now (a .file)) (now (a .list))
@@ -89,7 +90,7 @@ put-plan-spec =
     (λ c. search needs)
     (λ c κs. let s = c .before .before .before .before .before .before .before .before .before .before in (omega (arith, starts-long s, begins s .actions), rows-there (now (s .args .file)) (s .pre .0) (sizes-are s) (omega arith)))
     (λ c. search needs)
-    (λ c κs. let s = c .before .before .before .before .before .before .before .before .before .before .before .before .before .before in (omega (arith, starts-long s, begins s .actions), begin s))
+    (λ c κs. search needs)
     (λ c κs. let b = begins (c .before .before .before .before .before .before .before .before .before .before .before .before .before .before .before .before) in (b .variables, b .fits))
     (λ c. omega (arith, begins (c .before .before .before .before .before .before .before .before .before .before .before .before .before .before .before .before .before) .variables))
     (λ c. omega (arith, begins (c .before .before .before .before .before .before .before .before .before .before .before .before .before .before .before .before .before) .variables))
