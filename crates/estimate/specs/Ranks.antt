@@ -1,11 +1,12 @@
 -- Numbers lent as ranks: what a list of ranks says about the facts of a file.
 use mathlib.Core.Path.{_≡_}
-use Prim.Native.Nat.{ℕ, zero, suc, _<_}
+use Prim.Native.Nat.{ℕ, zero, suc, _+_, _≤_, _<_}
 use mathlib.Core.Bool.{Bool, true, false, _&&_}
 use mathlib.Core.List.{List}
 use lib.Dec.{ltb, eqb}
 use lib.ListN.{length, getD}
 use Rattle.facts.specs.Lists.{total}
+use Rattle.facts.specs.Partial.{Alike}
 use Rattle.estimate.specs.Number.{Number, never, lesser, rank, ranked}
 use Rattle.estimate.specs.Facts.{mostVariables, mostValues, factIndex, startNumber}
 use Rattle.estimate.specs.Additive.{Offer, offeredBy}
@@ -41,6 +42,11 @@ pub record Fell (before now : List ℕ) (fell : Bool) : Type 0 where
   pub count : length now ≡ length before
   pub same : fell ≡ false → now ≡ before
   pub less : fell ≡ true → total (λ r. r) now < total (λ r. r) before
+
+-- where the partial state ends whose facts have a sum of this rank: where the same stands as at `past`, if the sum is not never; not far past the file in any case
+pub record SumEnds (f : List ℕ) (past rankOfSum end : ℕ) : Type 0 where
+  pub there : rankOfSum < rank never → Alike f end past
+  pub near : end ≤ length f + 64
 
 -- ---- what is offered
 

@@ -6,45 +6,66 @@ use crate::ranks::rank_of;
 use crate::ranks::sum_rank;
 use facts::Field;
 ghost use mathlib.Core.Path.{_≡_};
-ghost use Rattle.facts.specs.Partial.{standingAt, partialAt};
+ghost use Prim.Native.Nat.{_+_, _≤_};
+ghost use lib.Count.{ones};
+ghost use lib.ListN.{length};
+ghost use Rattle.facts.specs.Partial.{standingAt, partialAt, pastPartial};
 ghost use Rattle.estimate.specs.Number.{ranked};
 ghost use Rattle.estimate.specs.Additive.{sumFrom};
-ghost use Rattle.estimate.specs.Ranks.{rankNumber, HasRanks, Fell, afterOffer, afterFact};
+ghost use Rattle.estimate.specs.Ranks.{rankNumber, SumEnds, HasRanks, Fell, afterOffer, afterFact};
 
-// The rank of the sum of the numbers of the facts of the partial state at an offset, for n variables.
-pub fn sum_at(file: &[u8], at: usize, n: usize, ranks: &[u64]) -> u64
-    ensures { λ r. ⌜ ranked r ≡ sumFrom (rankNumber (now (ranks .entry))) 0 n (partialAt (now (file .entry)) at) ⌝ }
+// The sum of the numbers of a partial state's facts, by its rank, and where the partial state ends; a sum that is never says nothing about the end.
+pub struct Summed {
+    pub rank: u64,
+    pub end: usize,
+}
+
+// The sum of the numbers of the facts of the partial state at an offset, for n variables.
+pub fn sum_at(file: &[u8], at: usize, n: usize, ranks: &[u64]) -> Summed
+    ensures { λ r. ⌜ ranked (r .rank) ≡ sumFrom (rankNumber (now (ranks .entry))) 0 n (partialAt (now (file .entry)) at) ⌝ }
+    ensures { λ r. ⌜ SumEnds (now (file .entry)) (pastPartial (now (file .entry)) at) (r .rank) (r .end) ⌝ }
 {
     match facts::number::read_map(file, at) {
-        Field::Refused(_) => 0,
-        Field::Value(map) => values_sum(file, at + 8, map, n, ranks),
+        Field::Refused(_) => Summed {
+            rank: 0,
+            end: file.len() + 1, // past the end of the file all offsets are alike
+        },
+        Field::Value(map) => values_sum(file, at, map, n, ranks),
     }
 }
 
-// The same for the values from an offset on, for the standing bits of a map; each turn takes the lowest bit away, and never stays never.
-fn values_sum(file: &[u8], from: usize, map: u64, n: usize, ranks: &[u64]) -> u64
-    ensures { λ r. ⌜ ranked r ≡ sumFrom (rankNumber (now (ranks .entry))) 0 n (standingAt (now (file .entry)) map from) ⌝ }
+// The same for the standing bits of the map at an offset; each turn takes the lowest bit away, and never stays never.
+fn values_sum(file: &[u8], at: usize, map: u64, n: usize, ranks: &[u64]) -> Summed
+    requires { ⌜ at + 8 ≤ length (now file) ⌝ }
+    ensures { λ r. ⌜ ranked (r .rank) ≡ sumFrom (rankNumber (now (ranks .entry))) 0 n (standingAt (now (file .entry)) map (at + 8)) ⌝ }
+    ensures { λ r. ⌜ SumEnds (now (file .entry)) (at + 8 + ones map) (r .rank) (r .end) ⌝ }
 {
     let mut total: u64 = 0;
-    let mut at = from;
+    let mut end = at + 8;
     let mut rest = map;
     while rest != 0 {
         if NEVER <= total {
-            return total;
+            return Summed { rank: total, end };
         }
         let bit = facts::partial::lowest_bit(rest);
         let v = bit.zeros;
         if n <= v {
-            return total;
+            return Summed {
+                rank: total,
+                end: at + facts::partial::partial_length(map),
+            };
         }
-        if file.len() <= at {
-            return total;
+        if file.len() <= end {
+            return Summed {
+                rank: total,
+                end: at + facts::partial::partial_length(map),
+            };
         }
-        total = sum_rank(total, rank_of(ranks, v, file[at] as usize));
+        total = sum_rank(total, rank_of(ranks, v, file[end] as usize));
         rest = rest & (rest - 1);
-        at += 1;
+        end += 1;
     }
-    total
+    Summed { rank: total, end }
 }
 
 // Offers a number, by its rank, to each fact of the partial state at an offset, which then has the lesser of its own and the offer; whether a rank fell.

@@ -1,14 +1,13 @@
 -- Laws of the bits of a map: the lowest standing one, those below a variable, those past the variables.
-use mathlib.Core.Path.{_≡_, refl, sym, ap, _∙_}
-use Prim.Native.Nat.{ℕ, zero, suc, _+_, _-_, _*_, _/_, _%_, _^_, _≤_, _<_}
+use mathlib.Core.Path.{_≡_, refl, ap, _∙_}
+use Prim.Native.Nat.{ℕ, zero, suc, _+_, _*_, _/_, _%_, _^_, _≤_, _<_}
 use native.Mathlib.Nat.{mul-le-mul-right, mod-lt, div-eq-of-lt, lt-of-not-le}
 use native.Mathlib.Decide.{decLe}
 use native.Mathlib.Omega.{arith}
-use lib.Bits.{bitAnd}
-use lib.Count.{ones, trailingZeros, under}
+use lib.Count.{trailingZeros, under}
 use lib.Pow.{split, pow-pos, pow-mono, shr-shr}
 use Rattle.facts.specs.Bits.{Lowest}
-use Rattle.facts.specs.BitsLaws.{doubled, skip, cleared, ones-even, ones-odd}
+use Rattle.facts.specs.BitsLaws.{doubled}
 
 -- a map has no bit from n up exactly if nothing is left of it after n halvings
 pub no-stray : (map n : ℕ) → map / 2 ^ n ≡ 0 → map < 2 ^ n
@@ -39,14 +38,3 @@ pub lowest-within : {m z a : ℕ} (k : ℕ) → Lowest m z a → m < 2 ^ k → z
 lowest-within {m} {z} {a} k l h =
     let low : 1 * 2 ^ z ≤ (2 * a + 1) * 2 ^ z = mul-le-mul-right (2 ^ z) (omega arith) in
     lt-of-not-le (λ g. let most = pow-mono g in absurd (omega (arith, l .bits)))
-
--- the map without its lowest standing bit has one standing bit less
-ones-shift : (m z : ℕ) → ones (m * 2 ^ z) ≡ ones m
-ones-shift m z = skip (λ m v. ones m) (λ m v. ones-even m) z m 0
-
-pub ones-cleared : {m z a : ℕ} → Lowest m z a → ones m ≡ suc (ones (bitAnd m (m - 1)))
-ones-cleared {m} {z} {a} l = ap ones (l .bits) ∙ ones-shift (2 * a + 1) z ∙ ones-odd a ∙ ap suc (sym (ap ones (cleared l) ∙ ones-shift a (suc z)))
-
-pub ones-none : {m : ℕ} → m ≡ 0 → ones m ≡ 0
-unfolding ones
-ones-none e = ap ones e

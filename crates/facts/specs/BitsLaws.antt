@@ -1,6 +1,6 @@
 -- Laws of the standing bits of a map, for loops that go from one to the next: zeros below a bit change nothing, and what a partial state in
 -- place is at its first variable and above it.
-use mathlib.Core.Path.{_≡_, refl, ap, ap₂, _∙_}
+use mathlib.Core.Path.{_≡_, refl, sym, ap, ap₂, _∙_}
 use Prim.Native.Nat.{ℕ, zero, suc, _+_, _-_, _*_, _/_, _%_, _^_, _≤_, _<_}
 use native.Mathlib.Nat.{pow-suc, add-mul, mul-assoc, mod-self}
 use native.Mathlib.Numerals.{add-one}
@@ -63,6 +63,18 @@ ones-even m = ones-step (2 * m) ∙ ap₂ (λ (b h : ℕ). b + ones h) (even-bit
 
 pub ones-odd : (m : ℕ) → ones (2 * m + 1) ≡ suc (ones m)
 ones-odd m = ones-step (2 * m + 1) ∙ ap₂ (λ (b h : ℕ). b + ones h) (odd-bit m) (odd-half m) ∙ omega arith
+
+-- zeros below a bit change no count
+ones-shift : (m z : ℕ) → ones (m * 2 ^ z) ≡ ones m
+ones-shift m z = skip (λ m v. ones m) (λ m v. ones-even m) z m 0
+
+-- the map without its lowest standing bit has one standing bit less
+pub ones-cleared : {m z a : ℕ} → Lowest m z a → ones m ≡ suc (ones (bitAnd m (m - 1)))
+ones-cleared {m} {z} {a} l = ap ones (l .bits) ∙ ones-shift (2 * a + 1) z ∙ ones-odd a ∙ ap suc (sym (ap ones (cleared l) ∙ ones-shift a (suc z)))
+
+pub ones-none : {m : ℕ} → m ≡ 0 → ones m ≡ 0
+unfolding ones
+ones-none e = ap ones e
 
 -- ---- a partial state in place
 

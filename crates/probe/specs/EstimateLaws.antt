@@ -10,8 +10,9 @@ use lib.Seq.{drop-cons}
 use Rattle.facts.specs.Read.{accepted, refused}
 use Rattle.facts.specs.Bytes.{Bytes}
 use Rattle.facts.specs.Lists.{All}
-use Rattle.facts.specs.Partial.{Partial, partialAt, pastPartial}
+use Rattle.facts.specs.Partial.{Partial, partialAt, pastPartial, Alike}
 use Rattle.facts.specs.Fields.{wordAt}
+use Rattle.facts.specs.InPlaceLaws.{alike-partial, alike-past, alike-word}
 use Rattle.facts.specs.HeadLaws.{head-read}
 use Rattle.facts.specs.WellFormed.{WfPartial}
 use Rattle.facts.specs.State.{checkState}
@@ -35,13 +36,13 @@ use Rattle.probe.specs.Estimate.{stepAchiever, probeEstimate, estimatePr
 -- ---- the offers of steps
 
 -- the offer of the step at an offset, from its parts
-pub step-offered : (f : List ℕ) (at n : ℕ) (of : ℕ → ℕ → Number) {effect place : ℕ} {offer : Number} {ranks : List ℕ} → effect ≡ pastPartial f at → place ≡ pastPartial f effect
+pub step-offered : (f : List ℕ) (at n : ℕ) (of : ℕ → ℕ → Number) {effect place : ℕ} {offer : Number} {ranks : List ℕ} → Alike f effect (pastPartial f at) → place ≡ pastPartial f effect
     → offer ≡ sum (sumFrom of 0 n (partialAt f at)) (exact (wordAt f place)) → HasRanks ranks (afterOffer (record { effect = partialAt f effect; number = offer }) of)
     → HasRanks ranks (afterStep f at n of)
 unfolding stepAt afterStep
 step-offered f at n of {effect} {place} e q o h =
-    let z : place ≡ pastPartial f (pastPartial f at) = q ∙ ap (pastPartial f) e in
-    offer-same of (ap (partialAt f) (sym e)) (sym (o ∙ ap (λ (w : ℕ). sum (sumFrom of 0 n (partialAt f at)) (exact (wordAt f w))) z)) h
+    let cost = ap (wordAt f) q ∙ alike-word f (alike-past f e) in
+    offer-same of (sym (alike-partial f e)) (sym (o ∙ ap (λ (w : ℕ). sum (sumFrom of 0 n (partialAt f at)) (exact w)) cost)) h
 
 -- a step that is never open offers nothing
 pub step-never : (f : List ℕ) (at n : ℕ) (ranks : List ℕ) → sumFrom (rankNumber ranks) 0 n (partialAt f at) ≡ never → HasRanks ranks (afterStep f at n (rankNumber ranks))

@@ -4,7 +4,6 @@ use estimate::ranks::NEVER;
 use estimate::ranks::UNSET;
 use estimate::ranks::sum_rank;
 ghost use mathlib.Core.Path.{_≡_};
-ghost use Prim.Native.Nat.{_≤_};
 ghost use mathlib.Core.List.{map};
 ghost use lib.ListN.{length};
 ghost use Rattle.facts.specs.Partial.{partialAt};
@@ -12,7 +11,6 @@ ghost use Rattle.estimate.specs.Number.{number};
 ghost use Rattle.estimate.specs.Additive.{additive};
 ghost use Rattle.estimate.specs.Ranks.{rankNumber, HasRanks, Roomy, Fresh, Fell};
 ghost use Rattle.estimate.specs.InTurn.{InTurn};
-ghost use Rattle.probe.specs.InPlace.{Within};
 ghost use Rattle.probe.specs.Estimate.{achieverAt, afterStep, Ready};
 
 // The array of ranks of a file that has few variables is for so many, and has so many places.
@@ -50,13 +48,13 @@ fn settle_in(
         if offer_steps(file, offsets, sizes.len(), ranks) {
             continue;
         }
-        return estimate::ranks::ranked(estimate::offers::sum_at(file, goal, sizes.len(), ranks));
+        let sum = estimate::offers::sum_at(file, goal, sizes.len(), ranks);
+        return estimate::ranks::ranked(sum.rank);
     }
 }
 
 // All steps offer in turn, each by the numbers as they are then; whether a rank fell. There are n variables.
 fn offer_steps(file: &[u8], offsets: &[usize], n: usize, ranks: &mut [u64]) -> bool
-    requires { ⌜ Within (now file) (now offsets) ⌝ }
     ensures { λ r. ⌜ InTurn n (map (achieverAt (now (file .entry))) (now (offsets .entry))) (now (ranks .entry)) (now (ranks .exit)) r ⌝ }
 {
     let mut fell = false;
@@ -69,16 +67,15 @@ fn offer_steps(file: &[u8], offsets: &[usize], n: usize, ranks: &mut [u64]) -> b
 
 // The same for the step at an offset.
 fn offer_step(file: &[u8], at: usize, n: usize, ranks: &mut [u64]) -> bool
-    requires { ⌜ at ≤ length (now file) ⌝ }
     ensures { λ r. ⌜ HasRanks (now (ranks .exit)) (afterStep (now (file .entry)) at n (rankNumber (now (ranks .entry)))) ⌝ }
     ensures { λ r. ⌜ Fell (now (ranks .entry)) (now (ranks .exit)) r ⌝ }
 {
     let known = estimate::offers::sum_at(file, at, n, ranks);
-    if NEVER <= known {
+    if NEVER <= known.rank {
         return false; // never is offered to no effect
     }
-    let effect = at + facts::partial::length_at(file, at);
+    let effect = known.end;
     let cost = effect + facts::partial::length_at(file, effect);
-    let offer = sum_rank(known, facts::number::word_at(file, cost) as u64);
+    let offer = sum_rank(known.rank, facts::number::word_at(file, cost) as u64);
     estimate::offers::lower_at(file, effect, offer, ranks)
 }

@@ -9,7 +9,8 @@ use lib.ListN.{length, getD, drop, set, replicate}
 use borrow.Author.Tests.{le-leb}
 use Rattle.facts.specs.Lists.{upFrom, All}
 use Rattle.facts.specs.ListLaws.{all-at}
-use Rattle.facts.specs.Partial.{partialAt, pastPartial}
+use Rattle.facts.specs.Partial.{partialAt, pastPartial, Alike}
+use Rattle.facts.specs.InPlaceLaws.{alike-partial}
 use Rattle.facts.specs.Fields.{wordAt}
 use Rattle.estimate.specs.Number.{Number, exact, never, largest, capped, sum, lesser, ranked}
 use Rattle.estimate.specs.NumberLaws.{sum-never-first, sum-never-second}
@@ -138,10 +139,10 @@ module _ {f sizes : List ℕ} {at : ℕ} {offsets : List ℕ} (r : Priceable f s
 -- ---- the offers of actions
 
 -- the offer of the action at an offset, from its parts
-pub action-offered : (f sizes : List ℕ) (at : ℕ) (offsets : List ℕ) (of : ℕ → ℕ → Number) {effect : ℕ} {offer : Number} {ranks : List ℕ} → effect ≡ pastPartial f at
+pub action-offered : (f sizes : List ℕ) (at : ℕ) (offsets : List ℕ) (of : ℕ → ℕ → Number) {effect : ℕ} {offer : Number} {ranks : List ℕ} → Alike f effect (pastPartial f at)
     → offer ≡ sum (sumFrom of 0 (length sizes) (partialAt f at)) (leastCostByPass sizes of (actionIn f sizes at offsets))
     → HasRanks ranks (afterOffer (record { effect = partialAt f effect; number = offer }) of) → HasRanks ranks (afterOwn (length sizes) (achieverIn f sizes at offsets) of)
-action-offered f sizes at offsets of e o h = offer-same of (ap (partialAt f) (sym e)) (sym o) h
+action-offered f sizes at offsets of e o h = offer-same of (sym (alike-partial f e)) (sym o) h
 
 module _ (f sizes actions firsts nodes : List ℕ) where
   -- `count` of them from number a on, and all

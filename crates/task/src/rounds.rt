@@ -83,7 +83,8 @@ fn settle_in(
         if offer_actions(file, sizes, action_at, first_node, node_at, ranks) {
             continue;
         }
-        return ranked(estimate::offers::sum_at(file, goal, sizes.len(), ranks));
+        let sum = estimate::offers::sum_at(file, goal, sizes.len(), ranks);
+        return ranked(sum.rank);
     }
 }
 
@@ -114,11 +115,11 @@ fn offer_action(file: &[u8], sizes: &[u8], at: usize, nodes: &[usize], ranks: &m
     ensures { λ r. ⌜ HasRanks (now (ranks .exit)) (afterOwn (length (now (sizes .entry))) (achieverIn (now (file .entry)) (now (sizes .entry)) at (now (nodes .entry))) (rankNumber (now (ranks .entry)))) ⌝ }
     ensures { λ r. ⌜ Fell (now (ranks .entry)) (now (ranks .exit)) r ⌝ }
 {
-    let effect = at + facts::partial::length_at(file, at);
     let known = estimate::offers::sum_at(file, at, sizes.len(), ranks);
-    if NEVER <= known {
+    if NEVER <= known.rank {
         return false; // never is offered to no effect
     }
-    let offer = sum_rank(known, least_cost(file, sizes, at, nodes, ranks));
+    let effect = known.end;
+    let offer = sum_rank(known.rank, least_cost(file, sizes, at, nodes, ranks));
     estimate::offers::lower_at(file, effect, offer, ranks)
 }

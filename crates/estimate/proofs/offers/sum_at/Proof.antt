@@ -1,21 +1,40 @@
 -- `estimate::offers::sum_at` meets its contract: no facts where the file ends inside the map, and else those of the map. Assumes nothing.
-use mathlib.Core.Path.{_≡_, sym, ap, _∙_}
+use Prim.Native.Nat.{ℕ}
+use mathlib.Core.Path.{_≡_, sym, ap, _∙_, subst}
 use native.Mathlib.Omega.{arith}
 use borrow.Author.Needs.{needs}
 use denote.Ref.{now}
 use Rattle.facts.specs.Read.{accepted}
 use Rattle.facts.specs.Answers.{fieldAnswer}
+use Rattle.facts.specs.Partial.{beyond}
 use Rattle.facts.specs.Fields.{readNumber}
-use Rattle.facts.specs.FieldLaws.{number-read}
-use Rattle.facts.specs.InPlaceLaws.{standing-read, empty-read}
+use Rattle.facts.specs.FieldLaws.{number-read, number-short}
+use Rattle.facts.specs.InPlaceLaws.{standing-read, empty-read, past-here, past-cut}
 use Rattle.estimate.specs.Additive.{sumFrom}
 use Rattle.estimate.specs.OfferLaws.{sum-empty}
-use Rattle.estimate.specs.Ranks.{rankNumber}
+use Rattle.estimate.specs.Ranks.{rankNumber, SumEnds}
 use Rattle.estimate.proofs.offers.sum_at.Statement.{statement}
 use Rattle.estimate.proofs.offers.sum_at.Tie as tie
 
 map-is : (c : tie.After-map) → readNumber (now (c .before .before .before .before .before .args .file)) 8 (c .before .before .before .before .before .args .at) ≡ accepted (c .map .given .0 .0)
 map-is c = sym (c .before .before .read-map .ensures) ∙ ap fieldAnswer (c .map .given .1)
+
+returns : tie.Need-returns
+returns c =
+    let a = c .before .before .before .before .before .args in
+    let cut = sym (c .before .before .read-map .ensures) ∙ ap fieldAnswer (c .enum-told .given .1) in (
+      sym (sum-empty (rankNumber (now (a .ranks))) (a .n) (empty-read (now (a .file)) (a .at) cut)),
+      record { there = λ l. beyond (omega arith) (omega (arith, number-short (now (a .file)) 8 (a .at) cut, past-cut (now (a .file)) (a .at) cut)); near = omega arith },
+    )
+
+returns-2 : tie.Need-returns-2
+returns-2 c =
+    let map = c .before .before in
+    let a = c .before .before .before .before .before .before .before .args in
+    let s = c .values-sum .result in (
+      c .values-sum .ensures .0 ∙ ap (sumFrom (rankNumber (now (a .ranks))) 0 (a .n)) (sym (standing-read _ _ (map-is map))),
+      subst (λ (past : ℕ). SumEnds (now (a .file)) past (s .rank) (s .end)) (sym (past-here (now (a .file)) (a .at) (map-is map))) (c .values-sum .ensures .1),
+    )
 
 pub sum-at-spec : {M : Type 1} → statement M
 sum-at-spec =
@@ -23,13 +42,8 @@ sum-at-spec =
     (tie.spec
     (λ c κs. search needs)
     (λ c. search needs)
+    (λ c. omega arith)
     (λ c. search needs)
-    (λ c. omega (arith, number-read _ 8 _ (map-is (c .before)) .fits))
-    (λ c κs. search needs)
-    (λ c.
-    let a = c .before .before .before .before .before .args in
-    sym (sum-empty (rankNumber (now (a .ranks))) (a .n) (empty-read (now (a .file)) (a .at) (sym (c .before .before .read-map .ensures) ∙ ap fieldAnswer (c .enum-told .given .1)))))
-    (λ c.
-    let map = c .before .before in
-    let a = map .before .before .before .before .before .args in
-    c .values-sum .ensures ∙ ap (sumFrom (rankNumber (now (a .ranks))) 0 (a .n)) (sym (standing-read _ _ (map-is map)))))
+    (λ c κs. number-read _ 8 _ (map-is (c .before)) .fits)
+    returns
+    returns-2)

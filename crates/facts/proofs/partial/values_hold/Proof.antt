@@ -7,7 +7,7 @@ use lib.Count.{ones}
 use lib.ListN.{length}
 use denote.Ref.{now}
 use Rattle.facts.specs.Partial.{holds, standingAt}
-use Rattle.facts.proofs.Bits.{ones-cleared, ones-none}
+use Rattle.facts.specs.BitsLaws.{ones-cleared, ones-none}
 use Rattle.facts.proofs.Loops.{holds-next, holds-not, holds-short, holds-over, holds-done}
 use native.Mathlib.Omega.{arith}
 use Rattle.facts.proofs.partial.values_hold.Statement.{statement}

@@ -6,7 +6,7 @@ use lib.Bits.{and-le-r}
 use lib.Count.{ones}
 use lib.ListN.{length, length-set}
 use Rattle.facts.specs.Partial.{apply, standingAt}
-use Rattle.facts.proofs.Bits.{ones-cleared, ones-none}
+use Rattle.facts.specs.BitsLaws.{ones-cleared, ones-none}
 use Rattle.facts.proofs.Loops.{apply-next, apply-cut, apply-over, apply-done}
 use native.Mathlib.Omega.{arith}
 use Rattle.facts.proofs.partial.values_set.Statement.{statement}

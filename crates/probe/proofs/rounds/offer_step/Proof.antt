@@ -11,17 +11,15 @@ use Rattle.probe.proofs.rounds.offer_step.Statement.{statement}
 use Rattle.probe.proofs.rounds.offer_step.Tie as tie
 
 returns : tie.Need-returns
-returns c = (step-never _ _ _ _ (sym (c .before .sum-at .ensures) ∙ ranked-never (c .before .sum-at .result) (c .if1 .taken)), fell-none _)
+returns c = (step-never _ _ _ _ (sym (c .before .before .sum-at .ensures .0) ∙ ranked-never (c .before .before .sum-at .result .rank) (c .if1 .taken)), fell-none _)
 
 returns-2 : tie.Need-returns-2
 returns-2 c =
-    let call = c .before .before in
-    let total = call .before .before in
-    let cost = total .before .before in
-    let word = total .before .word-at in
-    let lowered = call .lower-at .ensures in (
-      step-offered _ _ _ _ (past-is _ _ (cost .before .length-at .ensures .0)) (past-is _ _ (cost .length-at2 .ensures .0))
-          (total .sum-rank .ensures ∙ ap₂ sum (cost .before .before .before .sum-at .ensures) (ranked-exact (word .result) (omega (arith, word .ensures .1)) ∙ ap exact (word .ensures .0))) (lowered .0),
+    let known = c .before .before .before .before .before .before .before .before .before .sum-at .ensures in
+    let word = c .before .before .before .before .before .word-at in
+    let lowered = c .before .before .lower-at .ensures in (
+      step-offered _ _ _ _ (known .1 .there (omega (arith, c .before .before .before .before .before .before .before .if1 .left))) (past-is _ _ (c .before .before .before .before .before .before .length-at .ensures .0))
+          (c .before .before .before .before .sum-rank .ensures ∙ ap₂ sum (known .0) (ranked-exact (word .result) (omega (arith, word .ensures .1)) ∙ ap exact (word .ensures .0))) (lowered .0),
       lowered .1,
     )
 
@@ -33,9 +31,7 @@ offer-step-spec =
     (λ c. search needs)
     returns
     (λ c κs. search needs)
-    (λ c. search needs)
-    (λ c κs. search needs)
-    (λ c. search needs)
+    (λ c. omega (arith, c .before .before .before .sum-at .ensures .1 .near, c .length-at .ensures .1))
     (λ c κs. search needs)
     (λ c. omega (arith, c .word-at .ensures .1))
     (λ c κs. search needs)

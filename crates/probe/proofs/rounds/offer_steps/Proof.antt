@@ -45,7 +45,7 @@ offer-steps-spec =
     (λ c. (omega arith, refl, turning-start))
     (λ c. search needs)
     (λ c. omega arith)
-    (λ c κs. c .before .before .before .before .before .before .before .pre (c .before .before .before .loop .k) (omega arith))
+    (λ c κs. search needs)
     (λ c. omega arith)
     (λ c. omega arith)
     loop-again

@@ -53,7 +53,7 @@ returns c =
     let a = s .args in
     let t = turn .offer-steps .ensures in
     c .ranked .ensures
-    ∙ c .before .sum-at .ensures
+    ∙ c .before .sum-at .ensures .0
     ∙ nearing-end _ _ _ (s .pre .0 .steps) (steps-supported (now (a .file)) (now (a .offsets))) (roomy-same (s .pre .1) (l .inv .0 ∙ turn .before .before .before .before .ranks .given)) (l .inv .1) t (told .if1 .left) (s .pre .0 .goal-is)
 
 pub settle-in-spec : {M : Type 1} → statement M

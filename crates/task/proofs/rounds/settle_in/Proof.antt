@@ -52,7 +52,7 @@ returns c =
     let a = s .args in
     let t = turn .offer-actions .ensures in
     c .ranked .ensures
-    ∙ c .before .sum-at .ensures
+    ∙ c .before .sum-at .ensures .0
     ∙ nearing-end _ _ _ (achievers-wf (s .pre .0)) (actions-supported (now (a .file)) (now (a .sizes)) (now (a .action-at)) (now (a .first-node)) (now (a .node-at))) (roomy-same (s .pre .1) (l .inv .0 ∙ turn .before .before .before .before .ranks .given)) (l .inv .1) t (told .if1 .left) (s .pre .0 .goal-is)
 
 pub settle-in-spec : {M : Type 1} → statement M
