@@ -1,0 +1,29 @@
+-- What the words for tasks and steps have in common: facts and partial states.
+use Prim.Native.Nat.{ℕ, zero, suc, _%_}
+use mathlib.Core.List.{List, [], _∷_, _++_}
+use Rattle.facts.specs.Partial.{Partial, above}
+use Rattle.text.specs.Text.{decimal}
+use Rattle.text.specs.Append.{bytes}
+
+-- a fact, variable and value
+abbrev pub factText : ℕ → ℕ → List ℕ
+factText v d = decimal v ++ (bytes "=" ++ decimal d)
+
+-- the fact of variable v by its bit, after a space
+abbrev pub bitText : ℕ → ℕ → List ℕ → List ℕ
+bitText v zero values = []
+bitText v (suc b) [] = []
+bitText v (suc b) (d ∷ values) = bytes " " ++ factText v d
+
+-- the facts of the variables from v on, of n
+abbrev pub factsText : ℕ → ℕ → Partial → List ℕ
+factsText zero v p = []
+factsText (suc n) v p = bitText v (p .map % 2) (p .values) ++ factsText n (suc v) (above p)
+
+-- the facts of a partial state of n variables, the lowest variable's first
+unfoldable pub partialText : ℕ → Partial → List ℕ
+partialText n p = someText (p .map)
+  where
+    someText : ℕ → List ℕ
+    someText zero = bytes " none"
+    someText (suc b) = factsText n 0 p

@@ -1,0 +1,67 @@
+// Text written from an index of a buffer on, as much as there is room for: bytes, numbers and lists of them.
+ghost use mathlib.Core.Path.{_≡_};
+ghost use mathlib.Core.List.{[], _∷_};
+ghost use Rattle.text.specs.Text.{decimal, endAt, listText};
+ghost use Rattle.text.specs.Append.{Adds};
+
+// A byte; the index past it.
+pub fn append_byte(out: &mut [u8], at: usize, byte: u8) -> usize
+    ensures { λ r. ⌜ Adds (byte ∷ []) (now (out .entry)) (now (out .exit)) at r ⌝ }
+{
+    if out.len() <= at {
+        return at;
+    }
+    out[at] = byte;
+    at + 1
+}
+
+// All bytes of a slice.
+pub fn append(out: &mut [u8], at: usize, bytes: &[u8]) -> usize
+    ensures { λ r. ⌜ Adds (now (bytes .entry)) (now (out .entry)) (now (out .exit)) at r ⌝ }
+{
+    let mut end = at;
+    let mut i: usize = 0;
+    while i < bytes.len() {
+        end = append_byte(out, end, bytes[i]);
+        i += 1;
+    }
+    end
+}
+
+// The digits of a number.
+pub fn append_number(out: &mut [u8], at: usize, n: u64) -> usize
+    ensures { λ r. ⌜ Adds (decimal n) (now (out .entry)) (now (out .exit)) at r ⌝ }
+{
+    if n < 10 {
+        return append_byte(out, at, 48 + n as u8);
+    }
+    let last = append_number(out, at, n / 10);
+    append_byte(out, last, 48 + (n % 10) as u8)
+}
+
+// The numbers of a list with one space between them, and a newline.
+pub fn append_list(out: &mut [u8], at: usize, list: &[u16]) -> usize
+    ensures { λ r. ⌜ Adds (listText (now (list .entry))) (now (out .entry)) (now (out .exit)) at r ⌝ }
+{
+    if list.len() == 0 {
+        return append_byte(out, at, 10);
+    }
+    let mut end = at;
+    let mut i: usize = 0;
+    while i < list.len() {
+        let digits = append_number(out, end, list[i] as u64);
+        i += 1;
+        end = append_byte(out, digits, ending(i, list.len()));
+    }
+    end
+}
+
+// What ends the number before an index: a space, or a newline where the list ends.
+fn ending(i: usize, count: usize) -> u8
+    ensures { λ r. ⌜ r ≡ endAt i count ⌝ }
+{
+    if i < count {
+        return 32;
+    }
+    10
+}
