@@ -1,0 +1,94 @@
+// The bench tool: the operations on files that the arguments name, with texts of numbers in and out.
+mod commands;
+mod describing;
+mod input;
+mod output;
+mod words;
+
+use commands::is_probe;
+use commands::is_task;
+use input::is_probe_name;
+use input::is_word;
+use input::read_file;
+use input::read_number;
+use output::failed;
+use output::usage;
+use words::Command;
+
+// One byte more than the longest file has that is accepted, a probe file.
+const FILE: usize = 76215;
+
+fn main() {
+    if is_word(2, b"--explain") {
+        return start(3, true);
+    }
+    start(2, false);
+}
+
+// The command, with its first argument's number, and whether a refusal is to be explained.
+fn start(first: u8, explain: bool) {
+    let command = words::first_word();
+    if !words::takes(command, first) {
+        return usage();
+    }
+    let mut file = [0; FILE];
+    let given = read_file(first as usize, &mut file);
+    if !given.ok {
+        return failed();
+    }
+    let n = given.length;
+    on_file(command, &file[..n], first, explain);
+}
+
+// The command on the file that its first argument names.
+fn on_file(command: Command, file: &[u8], first: u8, explain: bool) {
+    if words::is_about_probe(command, is_probe_name(first as usize)) {
+        if is_probe(file, explain) {
+            on_probe(command, file, first, explain);
+        }
+    } else if is_task(file, explain) {
+        on_task(command, file, first, explain);
+    }
+}
+
+// A command on an accepted probe file.
+fn on_probe(command: Command, file: &[u8], first: u8, explain: bool) {
+    let next = first as usize + 1;
+    match command {
+        Command::Follow => commands::follow(file, next, explain),
+        Command::Estimate => commands::estimate_probe(file, next, explain),
+        _ => commands::accepted(),
+    }
+}
+
+// A command on an accepted task file.
+fn on_task(command: Command, file: &[u8], first: u8, explain: bool) {
+    let next = first as usize + 1;
+    match command {
+        Command::Compile => commands::compile(file, next, explain),
+        Command::Run => commands::run(file, next, explain),
+        Command::Expand => commands::expand(file, next, explain),
+        Command::Contract => commands::contract(file, next, explain),
+        Command::Estimate => commands::estimate_task(file, next, explain),
+        Command::Cost => with_action(command, file, first, explain),
+        Command::Relaxed => with_action(command, file, first, explain),
+        Command::Show => describing::show(file),
+        Command::Draw => describing::draw(file, next, explain),
+        Command::Steps => describing::steps(file, next, explain),
+        _ => commands::accepted(),
+    }
+}
+
+// A command on an action, whose number is the second argument.
+fn with_action(command: Command, file: &[u8], first: u8, explain: bool) {
+    let given = read_number(first as usize + 1);
+    if !given.ok {
+        return failed();
+    }
+    let action = given.length;
+    let next = first as usize + 2;
+    match command {
+        Command::Relaxed => commands::relaxed(file, action, next, explain),
+        _ => commands::cost(file, action, next, explain),
+    }
+}

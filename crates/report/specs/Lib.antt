@@ -1,0 +1,6 @@
+-- Definitions.
+pub mod Report
+-- Laws.
+pub mod ReportLaws
+-- Answers, computed.
+pub mod Examples
