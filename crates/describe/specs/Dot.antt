@@ -2,7 +2,7 @@
 use Prim.Native.Nat.{ℕ, suc}
 use mathlib.Core.List.{List, _++_}
 use lib.ListN.{length}
-use Rattle.taskfile.specs.Task.{Edge, Node, Action, Task}
+use Rattle.taskfile.specs.Task.{Edge, Node, Action}
 use Rattle.compilation.specs.Compile.{flat}
 use Rattle.text.specs.Text.{decimal}
 use Rattle.text.specs.Append.{bytes}
