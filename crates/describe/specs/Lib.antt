@@ -10,6 +10,7 @@ pub mod Rows
 pub mod RowLaws
 pub mod WordLaws
 pub mod ShowLaws
+pub mod DotLaws
 pub mod DescribeLaws
 -- The examples, computed.
 pub mod Examples

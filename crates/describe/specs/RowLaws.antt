@@ -1,13 +1,13 @@
 -- Laws of rows of texts.
 use Prim.Native.Nat.{ℕ, zero, suc, _+_, _*_, _-_, _≤_, _<_}
-use mathlib.Core.Path.{_≡_, refl, ap, ap₂, subst}
+use mathlib.Core.Path.{_≡_, refl, sym, ap, ap₂, subst, _∙_}
 use mathlib.Core.List.{List, [], _∷_, _++_, append-assoc}
 use native.Mathlib.Omega.{arith}
 use native.Mathlib.Numerals.{add-one}
 use lib.ListN.{length, getD}
 use Rattle.taskfile.specs.Task.{Edge, Node, Action}
 use Rattle.taskfile.specs.TaskFile.{edgeBytes}
-use Rattle.taskfile.specs.PartsInPlace.{edgeIn, edgesIn, nodesIn, actionsIn}
+use Rattle.taskfile.specs.PartsInPlace.{edgeIn, edgesIn, nodeIn, nodesIn, actionsIn}
 use Rattle.compilation.specs.Compile.{flat}
 use Rattle.text.specs.Text.{decimal}
 use Rattle.text.specs.Append.{Adds}
@@ -47,6 +47,12 @@ module _ (f : List ℕ) where
   edges-row text node at d zero e = refl
   edges-row text node at d (suc count) e =
       ap₂ (λ (o : ℕ) (rest : List ℕ). text d (edgeIn f o) ++ rest) e (edges-row text node (at + edgeBytes) (suc d) count (omega arith))
+
+  -- The edges of the node at an offset.
+  pub edges-text : (sizes : List ℕ) (text : ℕ → Edge → List ℕ) (node : ℕ) {v count : ℕ} → v ≡ getD f node 0 → count ≡ getD sizes v 0
+      → rowText (λ d. text d (edgeFor f node d)) 0 count ≡ flat text 0 (nodeIn f sizes node .edges)
+  edges-text sizes text node {count = count} h g =
+      sym (edges-row text node (node + 1) 0 count (omega arith)) ∙ ap (λ (k : ℕ). flat text 0 (edgesIn f (node + 1) k)) (g ∙ ap (λ (v : ℕ). getD sizes v 0) h)
 
   pub nodes-row : (text : ℕ → Node → List ℕ) (sizes offsets : List ℕ) (i j count : ℕ) → i ≡ 1 + j → flat text i (nodesIn f sizes offsets j count) ≡ rowText (λ j. text (1 + j) (nodeFor f sizes offsets j)) j count
   nodes-row text sizes offsets i j zero e = refl

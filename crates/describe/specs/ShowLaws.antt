@@ -3,18 +3,18 @@ use Prim.Native.Nat.{ℕ, _+_, _≤_, _<_}
 use mathlib.Core.Path.{_≡_, sym, ap, ap₂, _∙_}
 use mathlib.Core.List.{List, _++_}
 use native.Mathlib.Omega.{arith}
-use lib.ListN.{length, getD}
+use lib.ListN.{length}
 use borrow.Author.Tests.{le-leb, lt-leb}
 use Rattle.taskfile.specs.Task.{Edge}
-use Rattle.taskfile.specs.PartsInPlace.{edgesIn, nodeIn, nodesIn}
+use Rattle.taskfile.specs.PartsInPlace.{nodesIn}
 use Rattle.taskfile.specs.PartsInPlaceLaws.{nodes-long}
 use Rattle.compilation.specs.Compile.{flat}
 use Rattle.text.specs.Text.{decimal}
 use Rattle.text.specs.Append.{bytes, Adds}
 use Rattle.text.specs.AppendLaws.{adds-as}
 use Rattle.describe.specs.Show.{targetText, edgeText, nodeText, costText}
-use Rattle.describe.specs.Rows.{rowText, edgeFor, nodeFor}
-use Rattle.describe.specs.RowLaws.{edges-row, nodes-row}
+use Rattle.describe.specs.Rows.{rowText, nodeFor}
+use Rattle.describe.specs.RowLaws.{nodes-row}
 
 -- An edge leads to a node, or to the terminal.
 pub target-node : (m target : ℕ) → target ≤ m → bytes "node " ++ decimal target ≡ targetText m target
@@ -32,12 +32,6 @@ edge-as m d e t w v = adds-as (ap₂ (λ (t w : ℕ). edgeText m d (record { tar
 
 -- the file f
 module _ (f sizes : List ℕ) where
-  -- The edges of the node at an offset.
-  pub edges-text : (text : ℕ → Edge → List ℕ) (node : ℕ) {v count : ℕ} → v ≡ getD f node 0 → count ≡ getD sizes v 0
-      → rowText (λ d. text d (edgeFor f node d)) 0 count ≡ flat text 0 (nodeIn f sizes node .edges)
-  edges-text text node {count = count} h g =
-      sym (edges-row f text node (node + 1) 0 count (omega arith)) ∙ ap (λ (k : ℕ). flat text 0 (edgesIn f (node + 1) k)) (g ∙ ap (λ (v : ℕ). getD sizes v 0) h)
-
   -- The nodes at these offsets.
   pub nodes-text : (offsets : List ℕ) (m : ℕ) → rowText (λ j. nodeText m (1 + j) (nodeFor f sizes offsets j)) 0 m ≡ flat (nodeText (length (nodesIn f sizes offsets 0 m))) 1 (nodesIn f sizes offsets 0 m)
   nodes-text offsets m =

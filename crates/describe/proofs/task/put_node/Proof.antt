@@ -2,8 +2,7 @@
 use denote.Ref.{now}
 use Rattle.text.specs.AppendLaws.{adds-then, adds-as}
 use Rattle.describe.specs.Show.{edgeText}
-use Rattle.describe.specs.RowLaws.{two-then, number-as}
-use Rattle.describe.specs.ShowLaws.{edges-text}
+use Rattle.describe.specs.RowLaws.{two-then, number-as, edges-text}
 use borrow.Author.Needs.{needs}
 use Rattle.describe.proofs.task.put_node.Statement.{statement}
 use Rattle.describe.proofs.task.put_node.Tie as tie
