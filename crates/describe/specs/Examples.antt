@@ -1,8 +1,7 @@
 -- Task P of document 01 in words, and the steps of its probe list.
-use Prim.Native.Nat.{ℕ}
 use mathlib.Core.Path.{_≡_, refl}
-use mathlib.Core.List.{List, [], _∷_, _++_}
-use Rattle.facts.specs.Read.{Read, accepted, refused}
+use mathlib.Core.List.{[], _∷_}
+use Rattle.facts.specs.Read.{accepted, refused}
 use Rattle.taskfile.specs.Task.{Task}
 use Rattle.text.specs.Text.{decimal}
 use Rattle.text.specs.Append.{bytes}

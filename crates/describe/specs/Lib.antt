@@ -4,5 +4,13 @@ pub mod Show
 pub mod Dot
 pub mod Steps
 pub mod DescribeFile
+pub mod Answers
+pub mod Rows
+-- Laws.
+pub mod RowLaws
+pub mod WordLaws
+pub mod ShowLaws
+pub mod DotLaws
+pub mod DescribeLaws
 -- The examples, computed.
 pub mod Examples

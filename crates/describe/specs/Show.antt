@@ -1,11 +1,12 @@
 -- A task in words.
-use Prim.Native.Nat.{ℕ, suc}
+use Prim.Native.Nat.{ℕ}
 use mathlib.Core.Bool.{true, false}
-use mathlib.Core.List.{List, [], _∷_, _++_}
+use mathlib.Core.List.{List, _++_}
 use lib.Dec.{leb}
 use lib.ListN.{length, getD}
+use Rattle.facts.specs.Partial.{Partial}
 use Rattle.taskfile.specs.Task.{Edge, Node, Action, Task}
-use Rattle.compilation.specs.Compile.{mapFrom, flat}
+use Rattle.compilation.specs.Compile.{flat}
 use Rattle.text.specs.Text.{decimal}
 use Rattle.text.specs.Append.{bytes}
 use Rattle.describe.specs.Words.{partialText}
@@ -15,12 +16,6 @@ use Rattle.describe.specs.Words.{partialText}
 -- variable v: how many values it has, and its initial one
 abbrev pub variableText : ℕ → ℕ → ℕ → List ℕ
 variableText v size value = bytes "variable " ++ (decimal v ++ (bytes ": " ++ (decimal size ++ (bytes " values, starts at " ++ (decimal value ++ bytes "\n")))))
-
--- the variables from v on, with these sizes and initial values
-abbrev pub variablesText : ℕ → List ℕ → List ℕ → List ℕ
-variablesText v [] init = []
-variablesText v (size ∷ sizes) [] = []
-variablesText v (size ∷ sizes) (value ∷ init) = variableText v size value ++ variablesText (suc v) sizes init
 
 -- ---- cost diagrams
 
@@ -38,17 +33,18 @@ nodeText m i nd = bytes "  node " ++ (decimal i ++ (bytes " tests variable " ++ 
 
 -- ---- actions
 
--- action a of a task with n variables
+-- action a of a task with n variables: its number, precondition and effect
+abbrev pub statesText : ℕ → ℕ → Partial → Partial → List ℕ
+statesText n a pre eff = bytes "action " ++ (decimal a ++ (bytes "\n  precondition:" ++ (partialText n pre ++ (bytes "\n  effect:" ++ partialText n eff))))
+
+-- its cost: the incoming weight and the nodes
+abbrev pub costText : ℕ → List Node → List ℕ
+costText incoming nodes = bytes "\n  cost: " ++ (decimal incoming ++ (bytes ", then " ++ (targetText (length nodes) 1 ++ (bytes "\n" ++ flat (nodeText (length nodes)) 1 nodes))))
+
+-- both
 abbrev pub actionText : ℕ → ℕ → Action → List ℕ
-actionText n a x =
-    bytes "action "
-    ++ (decimal a
-    ++ (bytes "\n  precondition:"
-    ++ (partialText n (x .pre)
-    ++ (bytes "\n  effect:"
-    ++ (partialText n (x .eff)
-    ++ (bytes "\n  cost: " ++ (decimal (x .incoming) ++ (bytes ", then " ++ (targetText (length (x .nodes)) 1 ++ (bytes "\n" ++ flat (nodeText (length (x .nodes))) 1 (x .nodes)))))))))))
+actionText n a x = statesText n a (x .pre) (x .eff) ++ costText (x .incoming) (x .nodes)
 
 -- variables, goal and actions
 unfoldable pub taskText : Task → List ℕ
-taskText t = variablesText 0 (t .sizes) (t .init) ++ (bytes "goal:" ++ (partialText (length (t .sizes)) (t .goal) ++ (bytes "\n" ++ flat (actionText (length (t .sizes))) 0 (t .actions))))
+taskText t = flat (λ v size. variableText v size (getD (t .init) v 0)) 0 (t .sizes) ++ (bytes "goal:" ++ (partialText (length (t .sizes)) (t .goal) ++ (bytes "\n" ++ flat (actionText (length (t .sizes))) 0 (t .actions))))

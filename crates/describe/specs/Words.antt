@@ -20,10 +20,11 @@ abbrev pub factsText : ℕ → ℕ → Partial → List ℕ
 factsText zero v p = []
 factsText (suc n) v p = bitText v (p .map % 2) (p .values) ++ factsText n (suc v) (above p)
 
+-- the facts of a map, or that there are none
+abbrev pub someText : ℕ → List ℕ → List ℕ
+someText zero facts = bytes " none"
+someText (suc b) facts = facts
+
 -- the facts of a partial state of n variables, the lowest variable's first
 unfoldable pub partialText : ℕ → Partial → List ℕ
-partialText n p = someText (p .map)
-  where
-    someText : ℕ → List ℕ
-    someText zero = bytes " none"
-    someText (suc b) = factsText n 0 p
+partialText n p = someText (p .map) (factsText n 0 p)

@@ -1,1 +1,166 @@
-// Tasks in words.
+// Tasks in words, their cost diagrams for Graphviz, and the steps of a probe list by name: written into the caller's buffer, cut where its room ends.
+mod dot;
+mod task;
+mod words;
+
+use facts::Refusal;
+use taskfile::Counted;
+use text::append::append;
+ghost use mathlib.Core.Path.{_≡_};
+ghost use lib.ListN.{length};
+ghost use Rattle.taskfile.specs.Index.{Ready};
+ghost use Rattle.describe.specs.DescribeFile.{shown, drawn, drawnAction, lengthIn, textIn};
+ghost use Rattle.describe.specs.Answers.{describedAnswer};
+
+// How many bytes of a text were written, or the refusal.
+pub enum Described {
+    Length(usize),
+    Refused(Refusal),
+}
+
+// A task in words: the task file's refusals; a refusal changes no byte.
+pub fn show(file: &[u8], out: &mut [u8]) -> Described
+    ensures { λ r. ⌜ describedAnswer r ≡ lengthIn (length (now (out .entry))) (shown (now (file .entry))) ⌝ }
+    ensures { λ r. ⌜ now (out .exit) ≡ textIn (now (out .entry)) (shown (now (file .entry))) ⌝ }
+{
+    let mut starts = [0; 32];
+    let mut firsts = [0; 32];
+    let mut nodes = [0; 64];
+    let counted = taskfile::index_in(file, &mut starts, &mut firsts, &mut nodes);
+    match counted {
+        Counted::Refused(why) => Described::Refused(why),
+        Counted::Actions(variables, actions) => {
+            show_in(file, variables, actions, &starts, &firsts, &nodes, out)
+        }
+    }
+}
+
+// The same, of a file that is accepted.
+fn show_in(
+    file: &[u8],
+    variables: usize,
+    actions: usize,
+    starts: &[usize],
+    firsts: &[usize],
+    nodes: &[usize],
+    out: &mut [u8],
+) -> Described
+    requires { ⌜ Ready (now file) (record { variables = variables; actions = actions; starts = now starts; firsts = now firsts; nodes = now nodes }) ⌝ }
+    ensures { λ r. ⌜ describedAnswer r ≡ lengthIn (length (now (out .entry))) (shown (now (file .entry))) ⌝ }
+    ensures { λ r. ⌜ now (out .exit) ≡ textIn (now (out .entry)) (shown (now (file .entry))) ⌝ }
+{
+    let last = 1 + variables;
+    let goal = last + variables;
+    let sizes = &file[1..last];
+    let names = task::put_variables(out, 0, sizes, &file[last..goal]);
+    let label = append(out, names, b"goal:");
+    let facts = words::put_partial(out, label, file, goal, sizes);
+    let line = append(out, facts, b"\n");
+    let end = task::put_actions(out, line, file, sizes, &starts[..actions], firsts, nodes);
+    Described::Length(end)
+}
+
+// All cost diagrams of a task for Graphviz: the task file's refusals; a refusal changes no byte.
+pub fn draw(file: &[u8], out: &mut [u8]) -> Described
+    ensures { λ r. ⌜ describedAnswer r ≡ lengthIn (length (now (out .entry))) (drawn (now (file .entry))) ⌝ }
+    ensures { λ r. ⌜ now (out .exit) ≡ textIn (now (out .entry)) (drawn (now (file .entry))) ⌝ }
+{
+    let mut starts = [0; 32];
+    let mut firsts = [0; 32];
+    let mut nodes = [0; 64];
+    let counted = taskfile::index_in(file, &mut starts, &mut firsts, &mut nodes);
+    match counted {
+        Counted::Refused(why) => Described::Refused(why),
+        Counted::Actions(variables, actions) => {
+            draw_in(file, variables, actions, &starts, &firsts, &nodes, out)
+        }
+    }
+}
+
+// The same, of a file that is accepted.
+fn draw_in(
+    file: &[u8],
+    variables: usize,
+    actions: usize,
+    starts: &[usize],
+    firsts: &[usize],
+    nodes: &[usize],
+    out: &mut [u8],
+) -> Described
+    requires { ⌜ Ready (now file) (record { variables = variables; actions = actions; starts = now starts; firsts = now firsts; nodes = now nodes }) ⌝ }
+    ensures { λ r. ⌜ describedAnswer r ≡ lengthIn (length (now (out .entry))) (drawn (now (file .entry))) ⌝ }
+    ensures { λ r. ⌜ now (out .exit) ≡ textIn (now (out .entry)) (drawn (now (file .entry))) ⌝ }
+{
+    let last = 1 + variables;
+    let action_at = &starts[..actions];
+    let end = dot::put_drawing(
+        out,
+        file,
+        &file[1..last],
+        action_at,
+        firsts,
+        nodes,
+        0,
+        actions,
+    );
+    Described::Length(end)
+}
+
+// The cost diagram of an action: the task file's refusals, then 11 for the number; a refusal changes no byte.
+pub fn draw_action(file: &[u8], action: usize, out: &mut [u8]) -> Described
+    ensures { λ r. ⌜ describedAnswer r ≡ lengthIn (length (now (out .entry))) (drawnAction (now (file .entry)) action) ⌝ }
+    ensures { λ r. ⌜ now (out .exit) ≡ textIn (now (out .entry)) (drawnAction (now (file .entry)) action) ⌝ }
+{
+    let mut starts = [0; 32];
+    let mut firsts = [0; 32];
+    let mut nodes = [0; 64];
+    let counted = taskfile::index_in(file, &mut starts, &mut firsts, &mut nodes);
+    match counted {
+        Counted::Refused(why) => Described::Refused(why),
+        Counted::Actions(variables, actions) => {
+            draw_one_in(
+                file,
+                variables,
+                actions,
+                &starts,
+                &firsts,
+                &nodes,
+                action,
+                out,
+            )
+        }
+    }
+}
+
+// The same, of a file that is accepted.
+fn draw_one_in(
+    file: &[u8],
+    variables: usize,
+    actions: usize,
+    starts: &[usize],
+    firsts: &[usize],
+    nodes: &[usize],
+    action: usize,
+    out: &mut [u8],
+) -> Described
+    requires { ⌜ Ready (now file) (record { variables = variables; actions = actions; starts = now starts; firsts = now firsts; nodes = now nodes }) ⌝ }
+    ensures { λ r. ⌜ describedAnswer r ≡ lengthIn (length (now (out .entry))) (drawnAction (now (file .entry)) action) ⌝ }
+    ensures { λ r. ⌜ now (out .exit) ≡ textIn (now (out .entry)) (drawnAction (now (file .entry)) action) ⌝ }
+{
+    if actions <= action {
+        return Described::Refused(Refusal::Missing(0));
+    }
+    let last = 1 + variables;
+    let action_at = &starts[..actions];
+    let end = dot::put_drawing(
+        out,
+        file,
+        &file[1..last],
+        action_at,
+        firsts,
+        nodes,
+        action,
+        action + 1,
+    );
+    Described::Length(end)
+}

@@ -1,5 +1,5 @@
 -- Laws of text written one part straight after the other.
-use Prim.Native.Nat.{ℕ, zero, suc, _+_, _-_, _/_, _%_, _≤_, _<_}
+use Prim.Native.Nat.{ℕ, zero, suc, _+_, _/_, _%_, _≤_, _<_, min}
 use mathlib.Core.Path.{_≡_, refl, sym, ap, subst, _∙_}
 use mathlib.Core.Bool.{Bool, true, false}
 use mathlib.Core.List.{List, [], _∷_, _++_, append-nil, append-assoc}
@@ -164,3 +164,15 @@ put-after (x ∷ xs) done (r ∷ rest) =
 
 pub adds-front : {text out now : List ℕ} {end : ℕ} → Adds text out now 0 end → now ≡ over (take (length out) text) out
 adds-front {text} {out} v = v .buffer ∙ put-after text [] out
+
+past-within : (bs : List ℕ) (at room : ℕ) → at ≤ room → past bs at room ≡ min (at + length bs) room
+past-within [] at room l = omega arith
+past-within (b ∷ bs) at room l = go (ltb at room) refl (past-within bs)
+  where
+    go : (t : Bool) → ltb at room ≡ t → ((at room : ℕ) → at ≤ room → past bs at room ≡ min (at + length bs) room) → past bs (next room at) room ≡ min (at + suc (length bs)) room
+    go true t on = let m = ltb-true at room t in ap (λ (k : ℕ). past bs k room) (sym (next-within room at m)) ∙ on (at + 1) room (omega arith) ∙ omega arith
+    go false t on = let m = ltb-false at room t in ap (λ (k : ℕ). past bs k room) (sym (next-full room at m)) ∙ on at room l ∙ omega arith
+
+-- and the index past it is the text's length, or the buffer's
+pub adds-end : {text out now : List ℕ} {end : ℕ} → Adds text out now 0 end → end ≡ min (length text) (length out)
+adds-end {text} {out} v = v .place ∙ past-within text 0 (length out) (omega arith) ∙ omega arith

@@ -1,0 +1,60 @@
+-- `describe::task::put_actions` meets its contract: one action after the other. Assumes nothing.
+use Prim.Native.Nat.{ℕ, _-_}
+use mathlib.Core.Path.{ap}
+use mathlib.Core.List.{List}
+use lib.ListN.{length, getD}
+use denote.Ref.{now}
+use Rattle.taskfile.specs.MoveInPlaceLaws.{own-nodes}
+use Rattle.taskfile.specs.PartsInPlace.{actionIn}
+use Rattle.text.specs.AppendLaws.{adds-as}
+use Rattle.describe.specs.Show.{actionText}
+use Rattle.describe.specs.Rows.{rowText, actionFor}
+use Rattle.describe.specs.RowLaws.{Row, row-start, row-more, row-end}
+use borrow.Author.Needs.{needs}
+use native.Mathlib.Omega.{arith}
+use Rattle.describe.proofs.task.put_actions.Statement.{statement}
+use Rattle.describe.proofs.task.put_actions.Tie as tie
+
+-- the text of an action
+abbrev text : List ℕ → List ℕ → List ℕ → List ℕ → List ℕ → ℕ → List ℕ
+text file sizes starts firsts nodes a = actionText (length sizes) a (actionFor file sizes starts firsts nodes a)
+
+abbrev Inv-loop : tie.InvT-loop
+Inv-loop out₀ at file sizes starts firsts nodes end₀ a₀ out end a =
+    Row (text file sizes starts firsts nodes) (rowText (text file sizes starts firsts nodes) 0 (length starts)) out₀ out at end a (length starts)
+
+abbrev μ-loop : tie.MeasureT-loop
+μ-loop out₀ at file sizes starts firsts nodes end₀ a₀ out end a = length starts - a
+
+loop-holds : tie.Need-loop-holds Inv-loop μ-loop
+loop-holds c =
+    let x = c .before .before .before .before .before .before .args in
+    row-start (text (now (x .file)) (now (x .sizes)) (now (x .starts)) (now (x .firsts)) (now (x .nodes))) 0 (length (now (x .starts))) (length (now (x .starts))) (now (x .out)) (x .at) (omega arith)
+
+loop-again : tie.Need-loop-again Inv-loop μ-loop
+loop-again c =
+    let x = c .before .before .before .before .before .before .before .before .before .before .before .before .before .before .before .args in
+    let a = c .before .before .before .before .before .before .before .before .loop .a in
+    let own = own-nodes (now (x .nodes)) (getD (now (x .firsts)) a 0) (c .before .before .before .before .before .before .offset-within .ensures) in
+    row-more (c .before .before .before .before .before .before .before .before .loop .inv) (c .before .before .before .before .before .before .before .loop-test .taken) (adds-as (ap (λ (ns : List ℕ). actionText (length (now (x .sizes))) a (actionIn (now (x .file)) (now (x .sizes)) (getD (now (x .starts)) a 0) ns)) own) (c .before .before .put-action .ensures))
+
+pub put-actions-spec : {M : Type 1} → statement M
+put-actions-spec =
+    tie.close
+    (tie.spec
+    Inv-loop
+    μ-loop
+    loop-holds
+    (λ c κs. search needs)
+    (λ c. search needs)
+    (λ c. search needs)
+    (λ c. search needs)
+    (λ c. search needs)
+    (λ c. search needs)
+    (λ c. search needs)
+    (λ c κs. search needs)
+    (λ c. omega arith)
+    (λ c. omega arith)
+    loop-again
+    (λ c. c .before .loop .inv .adding .long)
+    (λ c. row-end (c .before .loop .inv) (c .loop-test .left)))

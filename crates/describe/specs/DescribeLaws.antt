@@ -1,0 +1,123 @@
+-- From the index of an accepted task file to the operations: what is written from the parts in place is the task's text.
+use Prim.Native.Nat.{ℕ, zero, suc, _+_, _*_, _-_, _≤_, _<_}
+use mathlib.Core.Option.{none}
+use mathlib.Core.Path.{_≡_, refl, sym, ap, _∙_}
+use mathlib.Core.List.{List, [], _∷_, _++_}
+use native.Mathlib.Omega.{arith}
+use lib.ListN.{length, getD, take, getElem?}
+use Rattle.facts.specs.Read.{Read, accepted, refused}
+use Rattle.facts.specs.ReadLaws.{not-made}
+use Rattle.facts.specs.ListLaws.{look}
+use Rattle.facts.specs.Partial.{partialAt}
+use Rattle.taskfile.specs.declared.Task.{Task as Index}
+use Rattle.taskfile.specs.Task.{Action, Task}
+use Rattle.taskfile.specs.TaskFile.{readTask, checkTask, actionOf}
+use Rattle.taskfile.specs.Index.{Ready}
+use Rattle.taskfile.specs.AnswerLaws.{there, starts, starts-count}
+use Rattle.taskfile.specs.PartsInPlace.{actionsIn}
+use Rattle.taskfile.specs.PartsInPlaceLaws.{at-some, action-here, located, actions-in-place}
+use Rattle.compilation.specs.Compile.{flat}
+use Rattle.text.specs.Append.{bytes, Adds}
+use Rattle.text.specs.AppendLaws.{adds-front, adds-end}
+use Rattle.describe.specs.Words.{partialText}
+use Rattle.describe.specs.Show.{variableText, actionText, taskText}
+use Rattle.describe.specs.Dot.{dotAction, dotText}
+use Rattle.describe.specs.DotLaws.{drawing-text, row-one}
+use Rattle.describe.specs.Rows.{rowText, actionFor}
+use Rattle.describe.specs.RowLaws.{actions-row, list-row}
+use Rattle.describe.specs.DescribeFile.{shown, drawn, drawnAction, lengthIn, textIn}
+
+-- There is no element past the last.
+pub look-none : {A : Type 0} (xs : List A) (k : ℕ) → length xs ≤ k → getElem? xs k ≡ none
+look-none [] k l = refl
+look-none (x ∷ xs) zero l = absurd (omega arith)
+look-none (x ∷ xs) (suc k) l = look-none xs k (omega arith)
+
+-- ---- answers
+
+-- A refusal writes nothing.
+pub refused-in : {answer : Read (List ℕ)} {n p : ℕ} (out : List ℕ) → answer ≡ refused n p → (refused n p ≡ lengthIn (length out) answer) × (out ≡ textIn out answer)
+unfolding lengthIn textIn
+refused-in out e = (rw e, rw (e, textIn))
+
+-- A text is written from the front on, and how much of it is the answer.
+pub written-in : {answer : Read (List ℕ)} {text out now : List ℕ} {end : ℕ} → answer ≡ accepted text → Adds text out now 0 end
+    → (accepted end ≡ lengthIn (length out) answer) × (now ≡ textIn out answer)
+unfolding lengthIn textIn
+written-in e v = (rw e (ap accepted (adds-end v)), rw (e, textIn) (adds-front v))
+
+module _ (f : List ℕ) where
+  -- The file's refusal.
+  pub shown-refused : {n p : ℕ} → checkTask f ≡ refused n p → shown f ≡ refused n p
+  unfolding checkTask shown
+  shown-refused h = rw (not-made (λ (t : Task). tt) (readTask f) h)
+
+  pub drawn-refused : {n p : ℕ} → checkTask f ≡ refused n p → drawn f ≡ refused n p
+  unfolding checkTask drawn
+  drawn-refused h = rw (not-made (λ (t : Task). tt) (readTask f) h)
+
+  pub action-refused : (a : ℕ) {n p : ℕ} → checkTask f ≡ refused n p → drawnAction f a ≡ refused n p
+  unfolding checkTask drawnAction
+  action-refused a h = rw (not-made (λ (t : Task). tt) (readTask f) h)
+
+  -- ---- the task of an accepted file with this index
+
+  module _ {i : Index} (ready : Ready f i) where
+    abbrev t : Task
+    t = there f ready .task
+
+    -- the offset of each action
+    abbrev begins : List ℕ
+    begins = take (i .actions) (i .starts)
+
+    pub shown-is : shown f ≡ accepted (taskText t)
+    unfolding shown
+    shown-is = rw (there f ready .reads)
+
+    -- The texts of the actions in place are those of the task's.
+    pub actions-text : (text : ℕ → Action → List ℕ) {sizes : List ℕ} → sizes ≡ t .sizes
+        → rowText (λ a. text a (actionFor f sizes begins (i .firsts) (i .nodes) a)) 0 (length begins) ≡ flat text 0 (t .actions)
+    actions-text text {sizes} e =
+        sym (actions-row f text sizes begins (i .firsts) (i .nodes) 0 (length begins))
+        ∙ ap (flat text 0) (ap (λ (ds : List ℕ). actionsIn f ds begins (i .firsts) (i .nodes) 0 (length begins)) e ∙ actions-in-place f ready)
+
+    -- What is written, one part after the other, is the task's text.
+    pub task-text : {sizes init : List ℕ} {goal : ℕ} → sizes ≡ t .sizes → init ≡ t .init → goal ≡ 1 + 2 * i .variables
+        → rowText (λ v. variableText v (getD sizes v 0) (getD init v 0)) 0 (length sizes)
+        ++ (bytes "goal:" ++ (partialText (length sizes) (partialAt f goal) ++ (bytes "\n" ++ rowText (λ a. actionText (length sizes) a (actionFor f sizes begins (i .firsts) (i .nodes) a)) 0 (length begins))))
+        ≡ taskText t
+    unfolding taskText
+    task-text {sizes} {init} {goal} s h g =
+        let names : rowText (λ v. variableText v (getD sizes v 0) (getD init v 0)) 0 (length sizes) ≡ flat (λ v size. variableText v size (getD (t .init) v 0)) 0 (t .sizes) =
+        rw (s, h) (sym (list-row (λ v size. variableText v size (getD (t .init) v 0)) (t .sizes) (t .sizes) 0 (λ k j l e. let same : j ≡ k = omega arith in rw same))) in
+        let goal-is : partialAt f goal ≡ t .goal = ap (partialAt f) g ∙ starts f ready .goal in
+        rw (names, goal-is, actions-text (actionText (length sizes)) s, s)
+
+    -- All diagrams.
+    pub drawn-is : drawn f ≡ accepted (dotText 0 (t .actions))
+    unfolding drawn
+    drawn-is = rw (there f ready .reads)
+
+    pub drawing-is : {sizes : List ℕ} → sizes ≡ t .sizes
+        → bytes "digraph costs {\n" ++ (rowText (λ a. dotAction a (actionFor f sizes begins (i .firsts) (i .nodes) a)) 0 (i .actions - 0) ++ bytes "}\n") ≡ dotText 0 (t .actions)
+    drawing-is {sizes} s =
+        let count : i .actions - 0 ≡ length begins = omega (arith, starts-count f ready, there f ready .actions) in
+        drawing-text 0 (t .actions) (ap (rowText (λ a. dotAction a (actionFor f sizes begins (i .firsts) (i .nodes) a)) 0) count ∙ actions-text dotAction s)
+
+    -- The diagram of one action.
+    module _ (a : ℕ) where
+      pub action-missing : i .actions ≤ a → drawnAction f a ≡ refused 11 0
+      unfolding drawnAction actionOf
+      action-missing l = rw (there f ready .reads, look-none (t .actions) a (omega (arith, there f ready .actions)), actionOf)
+
+      pub action-is : {sizes : List ℕ} → sizes ≡ t .sizes → a < i .actions → drawnAction f a ≡ accepted (dotText a (actionFor f sizes begins (i .firsts) (i .nodes) a ∷ []))
+      unfolding drawnAction actionOf
+      action-is {sizes} s l =
+          let x = at-some (t .actions) a (omega (arith, there f ready .actions)) in
+          let same : actionFor f sizes begins (i .firsts) (i .nodes) a ≡ x .0 = rw s (action-here f (located f ready .lies t (there f ready .reads) a (x .0) (x .1))) in
+          rw (there f ready .reads, look (x .1), actionOf, same)
+
+      pub diagram-is : (sizes : List ℕ)
+          → bytes "digraph costs {\n" ++ (rowText (λ a. dotAction a (actionFor f sizes begins (i .firsts) (i .nodes) a)) a (a + 1 - a) ++ bytes "}\n")
+          ≡ dotText a (actionFor f sizes begins (i .firsts) (i .nodes) a ∷ [])
+      diagram-is sizes = drawing-text a (actionFor f sizes begins (i .firsts) (i .nodes) a ∷ []) (row-one (λ a. dotAction a (actionFor f sizes begins (i .firsts) (i .nodes) a)) a)

@@ -1,0 +1,31 @@
+-- Rows of texts, and the parts of a task in place by number.
+use Prim.Native.Nat.{ℕ, zero, suc, _+_, _*_}
+use mathlib.Core.List.{List, [], _++_}
+use lib.ListN.{getD, drop}
+use Rattle.taskfile.specs.Task.{Edge, Node, Action}
+use Rattle.taskfile.specs.TaskFile.{edgeBytes}
+use Rattle.taskfile.specs.PartsInPlace.{edgeIn, nodeIn, actionIn}
+use Rattle.text.specs.Append.{Adds}
+
+-- the texts of `count` numbers from i on
+abbrev pub rowText : (ℕ → List ℕ) → ℕ → ℕ → List ℕ
+rowText text i zero = []
+rowText text i (suc count) = text i ++ rowText text (suc i) count
+
+-- two texts were written, one straight after the other
+pub record AddsTwo (xs ys before now : List ℕ) (at end : ℕ) : Type 0 where
+  pub adds : Adds (xs ++ ys) before now at end
+
+-- the file f
+module _ (f : List ℕ) where
+  -- the edge for the value d of the node at an offset
+  abbrev pub edgeFor : ℕ → ℕ → Edge
+  edgeFor node d = edgeIn f (node + (1 + edgeBytes * d))
+
+  -- the node at index j, where these are the offsets of an action's nodes
+  abbrev pub nodeFor : List ℕ → List ℕ → ℕ → Node
+  nodeFor sizes offsets j = nodeIn f sizes (getD offsets j 0)
+
+  -- action number a: `starts` has the offset of each, `firsts` the index of its first node in `nodes`
+  abbrev pub actionFor : List ℕ → List ℕ → List ℕ → List ℕ → ℕ → Action
+  actionFor sizes starts firsts nodes a = actionIn f sizes (getD starts a 0) (drop (getD firsts a 0) nodes)

@@ -1,0 +1,202 @@
+// A task in words, from the bytes of an accepted file.
+use crate::words::put_numbered;
+use crate::words::put_partial;
+use facts::number::byte_at;
+use facts::number::offset_at;
+use facts::number::offset_within;
+use facts::partial::length_at;
+use taskfile::walk::diagram_at;
+use taskfile::walk::edge_for;
+use text::append::append;
+ghost use Prim.Native.Nat.{_+_};
+ghost use lib.ListN.{length, getD, drop};
+ghost use Rattle.facts.specs.Partial.{partialAt, pastPartial, Alike};
+ghost use Rattle.taskfile.specs.Task.{Edge};
+ghost use Rattle.taskfile.specs.PartsInPlace.{nodeIn, nodesIn, actionIn};
+ghost use Rattle.text.specs.Append.{Adds};
+ghost use Rattle.describe.specs.Show.{variableText, targetText, edgeText, nodeText, statesText, costText, actionText};
+ghost use Rattle.describe.specs.Rows.{rowText, edgeFor, nodeFor, actionFor};
+
+// A variable: how many values it has, and its initial one.
+fn put_variable(out: &mut [u8], at: usize, v: usize, size: u8, value: u8) -> usize
+    ensures { λ r. ⌜ Adds (variableText v size value) (now (out .entry)) (now (out .exit)) at r ⌝ }
+{
+    let name = put_numbered(out, at, b"variable ", v as u64);
+    let values = put_numbered(out, name, b": ", size as u64);
+    let start = put_numbered(out, values, b" values, starts at ", value as u64);
+    append(out, start, b"\n")
+}
+
+// All variables, with these sizes and initial values.
+pub fn put_variables(out: &mut [u8], at: usize, sizes: &[u8], init: &[u8]) -> usize
+    ensures { λ r. ⌜ Adds (rowText (λ v. variableText v (getD (now (sizes .entry)) v 0) (getD (now (init .entry)) v 0)) 0 (length (now (sizes .entry)))) (now (out .entry)) (now (out .exit)) at r ⌝ }
+{
+    let mut end = at;
+    let mut v: usize = 0;
+    while v < sizes.len() {
+        end = put_variable(out, end, v, byte_at(sizes, v), byte_at(init, v));
+        v += 1;
+    }
+    end
+}
+
+// Where an edge leads to, in a diagram of m nodes.
+fn put_target(out: &mut [u8], at: usize, m: usize, target: usize) -> usize
+    ensures { λ r. ⌜ Adds (targetText m target) (now (out .entry)) (now (out .exit)) at r ⌝ }
+{
+    if target <= m {
+        return put_numbered(out, at, b"node ", target as u64);
+    }
+    append(out, at, b"the end")
+}
+
+// An edge, for the value d.
+fn put_edge(out: &mut [u8], at: usize, m: usize, d: u8, target: usize, weight: u32) -> usize
+    ensures { λ r. ⌜ Adds (edgeText m d (record { target = target; weight = weight })) (now (out .entry)) (now (out .exit)) at r ⌝ }
+{
+    let value = put_numbered(out, at, b"    value ", d as u64);
+    let adds = put_numbered(out, value, b" adds ", weight as u64);
+    let then = append(out, adds, b", then ");
+    let leads = put_target(out, then, m, target);
+    append(out, leads, b"\n")
+}
+
+// The edges of the node at an offset, of m: one for each of `count` values.
+fn put_edges(out: &mut [u8], at: usize, file: &[u8], node: usize, count: u8, m: usize) -> usize
+    ensures { λ r. ⌜ Adds (rowText (λ d. edgeText m d (edgeFor (now (file .entry)) node d)) 0 count) (now (out .entry)) (now (out .exit)) at r ⌝ }
+{
+    let mut end = at;
+    let mut d: u8 = 0;
+    while d < count {
+        let edge = edge_for(file, node, d);
+        end = put_edge(out, end, m, d, edge.target, edge.weight);
+        d += 1;
+    }
+    end
+}
+
+// Node i of m, at an offset.
+fn put_node(
+    out: &mut [u8],
+    at: usize,
+    file: &[u8],
+    sizes: &[u8],
+    node: usize,
+    i: usize,
+    m: usize,
+) -> usize
+    ensures { λ r. ⌜ Adds (nodeText m i (nodeIn (now (file .entry)) (now (sizes .entry)) node)) (now (out .entry)) (now (out .exit)) at r ⌝ }
+{
+    let variable = byte_at(file, node);
+    let name = put_numbered(out, at, b"  node ", i as u64);
+    let tests = put_numbered(out, name, b" tests variable ", variable as u64);
+    let line = append(out, tests, b"\n");
+    put_edges(out, line, file, node, byte_at(sizes, variable as usize), m)
+}
+
+// The m nodes of an action, which begin at these offsets.
+fn put_nodes(
+    out: &mut [u8],
+    at: usize,
+    file: &[u8],
+    sizes: &[u8],
+    nodes: &[usize],
+    m: usize,
+) -> usize
+    ensures { λ r. ⌜ Adds (rowText (λ j. nodeText m (1 + j) (nodeFor (now (file .entry)) (now (sizes .entry)) (now (nodes .entry)) j)) 0 m) (now (out .entry)) (now (out .exit)) at r ⌝ }
+{
+    let mut end = at;
+    let mut j: usize = 0;
+    while j < m {
+        end = put_node(out, end, file, sizes, offset_at(nodes, j), 1 + j, m);
+        j += 1;
+    }
+    end
+}
+
+// Where the effect of the action at an offset stands; past the end of the file the offset stays.
+fn effect_at(file: &[u8], place: usize) -> usize
+    ensures { λ r. ⌜ Alike (now (file .entry)) r (pastPartial (now (file .entry)) place) ⌝ }
+{
+    if file.len() < place {
+        return place;
+    }
+    place + length_at(file, place)
+}
+
+// Action a, at an offset: its number, precondition and effect.
+fn put_states(out: &mut [u8], at: usize, file: &[u8], sizes: &[u8], place: usize, a: usize) -> usize
+    ensures { λ r. ⌜ Adds (statesText (length (now (sizes .entry))) a (partialAt (now (file .entry)) place) (partialAt (now (file .entry)) (pastPartial (now (file .entry)) place))) (now (out .entry)) (now (out .exit)) at r ⌝ }
+{
+    let name = put_numbered(out, at, b"action ", a as u64);
+    let before = append(out, name, b"\n  precondition:");
+    let precondition = put_partial(out, before, file, place, sizes);
+    let after = append(out, precondition, b"\n  effect:");
+    put_partial(out, after, file, effect_at(file, place), sizes)
+}
+
+// Its cost: the incoming weight, and the m nodes that begin at these offsets.
+fn put_cost(
+    out: &mut [u8],
+    at: usize,
+    file: &[u8],
+    sizes: &[u8],
+    nodes: &[usize],
+    incoming: u32,
+    m: usize,
+) -> usize
+    ensures { λ r. ⌜ Adds (costText incoming (nodesIn (now (file .entry)) (now (sizes .entry)) (now (nodes .entry)) 0 m)) (now (out .entry)) (now (out .exit)) at r ⌝ }
+{
+    let cost = put_numbered(out, at, b"\n  cost: ", incoming as u64);
+    let then = append(out, cost, b", then ");
+    let first = put_target(out, then, m, 1);
+    let line = append(out, first, b"\n");
+    put_nodes(out, line, file, sizes, nodes, m)
+}
+
+// Both, of the action whose own nodes begin at the offsets `nodes`.
+fn put_action(
+    out: &mut [u8],
+    at: usize,
+    file: &[u8],
+    sizes: &[u8],
+    place: usize,
+    nodes: &[usize],
+    a: usize,
+) -> usize
+    ensures { λ r. ⌜ Adds (actionText (length (now (sizes .entry))) a (actionIn (now (file .entry)) (now (sizes .entry)) place (now (nodes .entry)))) (now (out .entry)) (now (out .exit)) at r ⌝ }
+{
+    let diagram = diagram_at(file, place);
+    let states = put_states(out, at, file, sizes, place, a);
+    put_cost(
+        out,
+        states,
+        file,
+        sizes,
+        nodes,
+        diagram.incoming,
+        diagram.count,
+    )
+}
+
+// All actions: `starts` has the offset of each, `firsts` the index of its first node in `nodes`.
+pub fn put_actions(
+    out: &mut [u8],
+    at: usize,
+    file: &[u8],
+    sizes: &[u8],
+    starts: &[usize],
+    firsts: &[usize],
+    nodes: &[usize],
+) -> usize
+    ensures { λ r. ⌜ Adds (rowText (λ a. actionText (length (now (sizes .entry))) a (actionFor (now (file .entry)) (now (sizes .entry)) (now (starts .entry)) (now (firsts .entry)) (now (nodes .entry)) a)) 0 (length (now (starts .entry)))) (now (out .entry)) (now (out .exit)) at r ⌝ }
+{
+    let mut end = at;
+    let mut a: usize = 0;
+    while a < starts.len() {
+        let first = offset_within(firsts, a, nodes.len());
+        end = put_action(out, end, file, sizes, starts[a], &nodes[first..], a);
+        a += 1;
+    }
+    end
+}
