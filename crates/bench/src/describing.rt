@@ -1,14 +1,70 @@
 // The commands that describe a task or a probe list in words.
-use crate::output::usage;
+use crate::input::is_given;
+use crate::input::read_list;
+use crate::input::read_number;
+use crate::output::done;
+use crate::output::failed;
+use crate::output::refuse;
+use crate::output::write;
+use describe::Described;
+use report::Subject;
 
-pub fn show(file: &[u8]) {
-    usage();
+// The most bytes of a task in words and of its diagrams, and of the steps of a list: more than any has.
+const TASK_TEXT: usize = 65536;
+
+const STEPS_TEXT: usize = 524288;
+
+// One entry more than a list of steps may have.
+const LIST: usize = 6657;
+
+// A text that was written into a buffer, or the refusal.
+fn described(answer: Described, text: &[u8], subject: Subject, explain: bool) {
+    match answer {
+        Described::Length(n) => {
+            write(libc::STDOUT_FILENO, text, n);
+            done();
+        }
+        Described::Refused(why) => refuse(explain, subject, why),
+    }
 }
 
+// `show TASK`: the task in words.
+pub fn show(file: &[u8], explain: bool) {
+    let mut text = [0; TASK_TEXT];
+    let answer = describe::show(file, &mut text);
+    described(answer, &text, Subject::File, explain);
+}
+
+// `draw TASK [ACTION]`: all cost diagrams, or an action's.
 pub fn draw(file: &[u8], next: usize, explain: bool) {
-    usage();
+    if is_given(next) {
+        return draw_action(file, next, explain);
+    }
+    let mut text = [0; TASK_TEXT];
+    let answer = describe::draw(file, &mut text);
+    described(answer, &text, Subject::File, explain);
 }
 
+// The cost diagram of the action whose number is an argument.
+fn draw_action(file: &[u8], next: usize, explain: bool) {
+    let given = read_number(next);
+    if !given.ok {
+        return failed();
+    }
+    let mut text = [0; TASK_TEXT];
+    let answer = describe::draw_action(file, given.length, &mut text);
+    described(answer, &text, Subject::State, explain);
+}
+
+// `steps TASK LIST`: each step of a probe list by name.
 pub fn steps(file: &[u8], next: usize, explain: bool) {
-    usage();
+    let mut list = [0; LIST];
+    let given = read_list(next, &mut list);
+    if !given.ok {
+        return failed();
+    }
+    let n = given.length;
+    let mut text = [0; STEPS_TEXT];
+    describe::show(file, &mut text);
+    failed();
 }

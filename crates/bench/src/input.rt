@@ -30,6 +30,11 @@ pub fn is_word(i: usize, word: &[u8]) -> bool {
     check::same(&name[..length], word)
 }
 
+// Whether there is an argument i.
+pub fn is_given(i: usize) -> bool {
+    i < os::arg_count()
+}
+
 // Whether the name in argument i ends in `.probe`.
 pub fn is_probe_name(i: usize) -> bool {
     let mut name = io::buffer();

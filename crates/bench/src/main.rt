@@ -72,7 +72,7 @@ fn on_task(command: Command, file: &[u8], first: u8, explain: bool) {
         Command::Estimate => commands::estimate_task(file, next, explain),
         Command::Cost => with_action(command, file, first, explain),
         Command::Relaxed => with_action(command, file, first, explain),
-        Command::Show => describing::show(file),
+        Command::Show => describing::show(file, explain),
         Command::Draw => describing::draw(file, next, explain),
         Command::Steps => describing::steps(file, next, explain),
         _ => commands::accepted(),
