@@ -23,6 +23,7 @@ pub mod PartialReadLaws
 pub mod InPlaceLaws
 pub mod OperatorLaws
 pub mod HeadLaws
+pub mod FrontLaws
 pub mod StateLaws
 pub mod WriteLaws
 pub mod RunLaws

@@ -6,6 +6,7 @@ pub mod InPlace
 pub mod Estimate
 -- Laws.
 pub mod ProbeLaws
+pub mod FrontLaws
 pub mod InPlaceLaws
 pub mod IndexLaws
 pub mod EstimateLaws

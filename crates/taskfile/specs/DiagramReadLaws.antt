@@ -3,12 +3,12 @@ use mathlib.Core.Path.{_≡_, refl, sym, ap, ap₂, _∙_, subst, subst₂}
 use Prim.Native.Nat.{ℕ, zero, suc, _+_, _*_, _≤_, _<_}
 use native.Mathlib.Omega.{arith}
 use mathlib.Core.Bool.{_&&_, and-eq-true-iff}
-use mathlib.Core.List.{List, [], _∷_}
+use mathlib.Core.List.{List}
 use lib.Dec.{leb, ltb}
 use lib.ListN.{length, getD}
 use borrow.Author.Tests.{leb-true, ltb-true}
 use Rattle.facts.specs.Read.{Read, accepted, check}
-use Rattle.facts.specs.ReadLaws.{through, checked, value-of, next-of, carried}
+use Rattle.facts.specs.ReadLaws.{through, checked, value-of, carried}
 use Rattle.facts.specs.Lists.{upFrom, All, Zip, nil, cons, At, here, there}
 use Rattle.facts.specs.ListLaws.{length-upFrom, at-none, at-getD, all-at}
 use Rattle.facts.specs.Bytes.{numberAt, Bytes}
@@ -16,6 +16,7 @@ use Rattle.facts.specs.BytesLaws.{two-below}
 use Rattle.facts.specs.Fields.{each, readCount, readWeight}
 use Rattle.facts.specs.EachLaws.{each-split, each-zip, each-length, each-next}
 use Rattle.facts.specs.FieldLaws.{Counted, Valued, taken, count-read, weight-read}
+use Rattle.facts.specs.FrontLaws.{each-most}
 use Rattle.taskfile.specs.Task.{Edge, Node, maxValues, maxWeight, level, WfNode}
 use Rattle.taskfile.specs.TaskFile.{edgeBytes, nodeBytes, checkTargets, checkRising, readVariable, readTarget, readEdge, readEdges, readNode, readNodes, readDiagram}
 
@@ -50,15 +51,6 @@ each-lies read w h k (suc n) at q o {e = e} g (here {x = x} {xs = xs}) l m =
 each-lies read w h k (suc n) at q o {e = e} g (there {y = y} {xs = xs} a) l m =
     let s = each-split read k (upFrom (suc k) n) at y xs e g in
     each-lies read w h (suc k) n (s .next) q o (s .others) a (omega arith) (omega (arith, h k y at (s .next) (s .first)))
-
--- items of at most w bytes each
-each-most : {A X : Type 0} (read : A → ℕ → Read (X × ℕ)) (w : ℕ) → ((a : A) (x : X) (at e : ℕ) → read a at ≡ accepted (x, e) → e ≤ at + w)
-    → (items : List A) (at : ℕ) {xs : List X} {e : ℕ} → each read items at ≡ accepted (xs, e) → e ≤ at + w * length items
-each-most read w h [] at g = omega (arith, next-of g)
-each-most read w h (a ∷ items) at g =
-    let o = through (read a at) g in
-    let p = through (each read items (o .got .1)) (o .then) in
-    omega (arith, h a (o .got .0) at (o .got .1) (o .first), each-most read w h items (o .got .1) (p .first), next-of (p .then))
 
 -- ---- the variables along the edges
 

@@ -3,7 +3,6 @@ use mathlib.Core.Path.{_≡_, sym, ap, ap₂, _∙_, subst}
 use Prim.Native.Nat.{ℕ, zero, suc, _+_, _*_, _-_, _≤_}
 use native.Mathlib.Omega.{arith}
 use mathlib.Core.List.{List, _∷_}
-use lib.Count.{ones-le}
 use lib.ListN.{length}
 use Rattle.facts.specs.Read.{accepted}
 use Rattle.facts.specs.ReadLaws.{through, value-of, next-of, carried}
@@ -11,13 +10,12 @@ use Rattle.facts.specs.Lists.{total, At, here, there}
 use Rattle.facts.specs.ListLaws.{at-none}
 use Rattle.facts.specs.Bytes.{Bytes}
 use Rattle.facts.specs.BytesLaws.{two-below}
-use Rattle.facts.specs.Partial.{Partial}
 use Rattle.facts.specs.WellFormed.{WfHead}
-use Rattle.facts.specs.Fields.{Head, Operator, readCount, readPartial, readOperator, readHead, readEnd}
+use Rattle.facts.specs.Fields.{Head, Operator, readCount, readOperator, readHead, readEnd}
 use Rattle.facts.specs.OperatorLaws.{Operator-read, operator-read}
 use Rattle.facts.specs.FieldLaws.{count-read, end-read}
-use Rattle.facts.specs.PartialReadLaws.{partial-read}
 use Rattle.facts.specs.HeadLaws.{head-read}
+use Rattle.facts.specs.FrontLaws.{operator-reach, head-reach}
 use Rattle.taskfile.specs.Task.{Action, Task, maxVariables, maxValues, maxActions, maxNodes, maxBytes, WfAction, WfTask, Limits, Weights}
 use Rattle.taskfile.specs.TaskFile.{readDiagram, readAction, readActions, readTask}
 use Rattle.taskfile.specs.DiagramReadLaws.{Small, nodeMost, Diagram-read, diagram-read, diagram-wf, diagram-weights, diagram-most}
@@ -40,18 +38,11 @@ headOf t = record { sizes = t .sizes; init = t .init; goal = t .goal }
 module _ (f : List ℕ) where
   -- ---- the parts that all files have
 
-  pub partial-most : (sizes : List ℕ) (at : ℕ) {p : Partial} {e : ℕ} → length sizes ≤ maxVariables → readPartial f sizes at ≡ accepted (p, e) → e ≤ at + partialMost
-  partial-most sizes at {p} few h = let r = partial-read f sizes at h in omega (arith, r .next, ones-le (length sizes) (p .map) (r .wf .map-below))
-
   pub operator-most : (sizes : List ℕ) (at : ℕ) {o : Operator} {e : ℕ} → length sizes ≤ maxVariables → readOperator f sizes at ≡ accepted (o, e) → e ≤ at + (2 * partialMost + 2)
-  operator-most sizes at {o} few h =
-      let r = operator-read f sizes at h in
-      omega (arith, r .pre .next, ones-le (length sizes) (o .pre .map) (r .pre .wf .map-below), r .eff .next, ones-le (length sizes) (o .eff .map) (r .eff .wf .map-below), r .weight .next)
+  operator-most sizes at few h = operator-reach f sizes maxVariables at few h
 
   pub head-most : {h : Head} {e : ℕ} → readHead f maxVariables maxValues ≡ accepted (h, e) → e + 1 ≤ headMost
-  head-most {h} g =
-      let r = head-read f maxVariables maxValues g in
-      omega (arith, r .wf .variables, partial-most (h .sizes) (1 + 2 * length (h .sizes)) (r .wf .variables) (r .goal))
+  head-most g = omega (arith, head-reach f maxVariables maxValues g)
 
   -- ---- an action
 
