@@ -58,7 +58,7 @@ returns-4 : tie.Need-returns-4
 returns-4 c =
     let s = c .before .before .before .before .before .before .before .before .before .before .before .before .before .before .before in (
       sym (probe-good (now (s .args .file)) (s .pre .0) (count-is (c .before .before .before .before .before .before .before .before .before .before)) (same s) (steps-are (c .before .before)) (c .if1 .left)),
-      located (now (s .args .file)) (s .pre .0) (count-is (c .before .before .before .before .before .before .before .before .before .before)) (same s) (steps-are (c .before .before)) _ (c .before .before .before .before .before .before .steps-end .ensures .1),
+      located (now (s .args .file)) (s .pre .0) (count-is (c .before .before .before .before .before .before .before .before .before .before)) (same s) (steps-are (c .before .before)) (c .if1 .left) _ (c .before .before .before .before .before .before .steps-end .ensures .1),
     )
 
 pub index-steps-spec : {M : Type 1} → statement M
