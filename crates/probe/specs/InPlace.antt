@@ -3,17 +3,25 @@ use mathlib.Core.Path.{_≡_}
 use Prim.Native.Nat.{ℕ, _+_, _≤_, _<_}
 use mathlib.Core.List.{List}
 use lib.ListN.{length, getD}
-use Rattle.facts.specs.Read.{Read, accepted, withValue}
+use Rattle.facts.specs.Refusal.{number, place}
+use Rattle.facts.specs.Read.{Read, accepted, refused, withValue}
 use Rattle.facts.specs.Lists.{At}
 use Rattle.facts.specs.Partial.{partialAt, pastPartial}
-use Rattle.facts.specs.Fields.{nextOf, wordAt}
+use Rattle.facts.specs.Fields.{nextOf, valueOf, headAt, wordAt}
 use Rattle.facts.specs.Run.{Move}
 use Rattle.probe.specs.Probe.{Step, Probe, perform}
-use Rattle.probe.specs.ProbeFile.{readStep, readSteps, readProbe}
+use Rattle.probe.specs.ProbeFile.{readStep, readStepCount, readSteps, readProbe}
+use Rattle.probe.specs.declared.Counted.{Counted}
+use Rattle.probe.specs.declared.Counted.the-variants.{Steps, Refused as NotCounted}
 
 -- how many variables and how many steps the file has
 unfoldable pub probeAt : List ℕ → Read (ℕ × ℕ)
 probeAt f = withValue (λ p. (length (p .sizes), length (p .steps))) (readProbe f)
+
+-- what is told of what stands before the steps is the head's end and the counts, or why the file is refused
+abbrev pub CountedIn : List ℕ → Counted → Type 0
+CountedIn f (Steps variables at steps) = (headAt f 57 66 ≡ accepted (variables, at)) × (valueOf (readStepCount f at) ≡ accepted steps)
+CountedIn f (NotCounted why) = probeAt f ≡ refused (number why) (place why)
 
 -- the step at an offset, as its bytes stand
 unfoldable pub stepAt : List ℕ → ℕ → Step

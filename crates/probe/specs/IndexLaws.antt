@@ -71,6 +71,17 @@ module _ (f : List ℕ) where
       pub count-fits : (count ≤ maxSteps) × (at + 2 ≤ length f)
       count-fits = let m = count-most f at count-is in (m .0, m .2)
 
+      -- an accepted file has as many steps as it says
+      pub counted : {variables steps : ℕ} → probeAt f ≡ accepted (variables, steps) → steps ≡ count
+      unfolding probeAt readSteps
+      counted a =
+          let m = made (λ (p : Probe). (length (p .sizes), length (p .steps))) (readProbe f) a in
+          let l = probe-lines f (m .answer) in
+          let at-same : l .at₁ ≡ at = next-of (sym (l .head-is) ∙ head-is) in
+          let c : readStepCount f at ≡ accepted (l .count, l .at₂) = ap (readStepCount f) (sym at-same) ∙ l .count-is in
+          let long : length (m .from .steps) ≡ l .count = sym (each-length (λ (r : ℕ). readStep f (l .head .sizes)) (upFrom 0 (l .count)) (l .at₂) (l .steps-are)) ∙ length-upFrom 0 (l .count) in
+          sym (ap (λ (p : ℕ × ℕ). p .1) (m .value)) ∙ long ∙ value-of (sym c ∙ count-is)
+
       module _ {k : ℕ} (same : k ≡ n) where
         -- the domain sizes as they stand
         abbrev sizes : List ℕ

@@ -16,16 +16,32 @@ ghost use Rattle.estimate.specs.InTurn.{InTurn};
 ghost use Rattle.probe.specs.InPlace.{stepAt, Costed};
 ghost use Rattle.probe.specs.Estimate.{achieverAt, afterStep, Ready};
 
-// The array of ranks of a file that has few variables is for so many, and has so many places.
+// The arrays of ranks of files that have few variables: for so many, and with so many places each.
+const FEWEST: usize = 3;
+
+const FEWEST_FACTS: usize = 198;
+
+const FEWER: usize = 8;
+
+const FEWER_FACTS: usize = 528;
+
 const FEW: usize = 16;
 
 const FEW_FACTS: usize = 1056;
 
-// The estimate from a state: `offsets` has the offset of each step, and the goal starts at `goal`. An array for all variables that a file may have is filled only where it is needed.
+// The estimate from a state: `offsets` has the offset of each step, and the goal starts at `goal`. An array is filled in whole, so the smallest that has room for all facts is taken.
 pub fn settle(file: &[u8], sizes: &[u8], goal: usize, offsets: &[usize], state: &[u8]) -> Est
     requires { ⌜ Ready (now file) (now sizes) goal (now offsets) ⌝ }
     ensures { λ r. ⌜ number r ≡ additive (now (sizes .entry)) (map (achieverAt (now (file .entry))) (now (offsets .entry))) (partialAt (now (file .entry)) goal) (now (state .entry)) ⌝ }
 {
+    if sizes.len() <= FEWEST {
+        let mut fewest = [UNSET; FEWEST_FACTS];
+        return settle_in(file, sizes, goal, offsets, state, &mut fewest);
+    }
+    if sizes.len() <= FEWER {
+        let mut fewer = [UNSET; FEWER_FACTS];
+        return settle_in(file, sizes, goal, offsets, state, &mut fewer);
+    }
     if sizes.len() <= FEW {
         let mut few = [UNSET; FEW_FACTS];
         return settle_in(file, sizes, goal, offsets, state, &mut few);
