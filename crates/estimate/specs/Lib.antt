@@ -16,6 +16,7 @@ pub mod ListedLaws
 pub mod AdditiveLaws
 pub mod RanksLaws
 pub mod OfferLaws
+pub mod InsideLaws
 pub mod FallLaws
 -- The code lowers numbers in turn, and comes to the last numbers of the rounds.
 pub mod InTurnLaws

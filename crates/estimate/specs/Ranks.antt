@@ -1,8 +1,9 @@
 -- Numbers lent as ranks: what a list of ranks says about the facts of a file.
 use mathlib.Core.Path.{_≡_}
-use Prim.Native.Nat.{ℕ, zero, suc, _+_, _≤_, _<_}
+use Prim.Native.Nat.{ℕ, zero, suc, _+_, _*_, _^_, _≤_, _<_}
 use mathlib.Core.Bool.{Bool, true, false, _&&_}
 use mathlib.Core.List.{List}
+use lib.Count.{ones}
 use lib.Dec.{ltb, eqb}
 use lib.ListN.{length, getD}
 use Rattle.facts.specs.Lists.{total}
@@ -24,6 +25,14 @@ pub record Room (count v d : ℕ) : Type 0 where
 -- so many ranks have room for all facts of a file
 pub record Roomy (sizes : List ℕ) (count : ℕ) : Type 0 where
   pub room : (v d : ℕ) → d < getD sizes v 0 → Room count v d
+
+-- the values for a map that start at `from` lie inside the file, and so many ranks have room for all facts of the map's variables, which are among the first `few`
+pub record Inside (f : List ℕ) (from map count : ℕ) : Type 0 where
+  pub few : ℕ
+  pub bits : map < 2 ^ few
+  pub variables : few ≤ mostVariables
+  pub room : few * mostValues ≤ count
+  pub values : from + ones map ≤ length f
 
 -- the ranks are of the number `of v d` for the fact that variable v has the value d
 pub record HasRanks (ranks : List ℕ) (of : ℕ → ℕ → Number) : Type 0 where

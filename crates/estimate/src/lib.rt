@@ -1,4 +1,5 @@
 // The numbers of the additive heuristic, document 01's estimate, and the array that has one for every fact. What rounds over them come to is in specs/.
+mod inside;
 pub mod offers;
 pub mod ranks;
 

@@ -1,6 +1,10 @@
 // The facts of a partial state in place: the sum of their numbers, and what is offered to them.
 use crate::VALUES;
 use crate::VARIABLES;
+use crate::inside::fact_lowered;
+use crate::inside::inside;
+use crate::inside::lower_inside;
+use crate::inside::sum_inside;
 use crate::ranks::NEVER;
 use crate::ranks::rank_of;
 use crate::ranks::sum_rank;
@@ -30,7 +34,12 @@ pub fn sum_at(file: &[u8], at: usize, n: usize, ranks: &[u64]) -> Summed
             rank: 0,
             end: file.len() + 1, // past the end of the file all offsets are alike
         },
-        Field::Value(map) => values_sum(file, at, map, n, ranks),
+        Field::Value(map) => {
+            if inside(file, at + 8, map, n, ranks.len()) {
+                return sum_inside(file, at + 8, map, ranks);
+            }
+            values_sum(file, at, map, n, ranks)
+        }
     }
 }
 
@@ -75,7 +84,12 @@ pub fn lower_at(file: &[u8], at: usize, offer: u64, ranks: &mut [u64]) -> bool
 {
     match facts::number::read_map(file, at) {
         Field::Refused(_) => false,
-        Field::Value(map) => values_lowered(file, at + 8, map, offer, ranks),
+        Field::Value(map) => {
+            if inside(file, at + 8, map, VARIABLES, ranks.len()) {
+                return lower_inside(file, at + 8, map, offer, ranks);
+            }
+            values_lowered(file, at + 8, map, offer, ranks)
+        }
     }
 }
 
@@ -115,13 +129,8 @@ fn lower_fact(v: usize, d: usize, offer: u64, ranks: &mut [u64]) -> bool
     if VALUES <= d {
         return false;
     }
-    let i = v * VALUES + d;
-    if ranks.len() <= i {
+    if ranks.len() <= v * VALUES + d {
         return false;
     }
-    if ranks[i] <= offer {
-        return false;
-    }
-    ranks[i] = offer;
-    true
+    fact_lowered(v, d, offer, ranks)
 }

@@ -10,7 +10,7 @@ ghost use Rattle.estimate.specs.Number.{number, sum, ranked};
 ghost use Rattle.estimate.specs.Ranks.{rankNumber};
 
 // The ranks of over and of never.
-const OVER: u64 = 4294967296;
+pub const OVER: u64 = 4294967296;
 
 pub const NEVER: u64 = 4294967297;
 

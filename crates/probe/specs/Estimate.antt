@@ -14,7 +14,7 @@ use Rattle.estimate.specs.Ranks.{Roomy}
 use Rattle.estimate.specs.InTurn.{afterOwn}
 use Rattle.probe.specs.Probe.{Step, Probe, WfProbe}
 use Rattle.probe.specs.ProbeFile.{readProbe}
-use Rattle.probe.specs.InPlace.{stepAt, Within}
+use Rattle.probe.specs.InPlace.{stepAt, Costed}
 
 -- a step for the heuristic
 abbrev pub stepAchiever : Step → Achiever
@@ -41,7 +41,7 @@ afterStep f at n of = afterOwn n (achieverAt f at) of
 -- domain sizes, goal and steps as they stand in a file, well-formed, so that offers in turn end on their estimate
 pub record Ready (f sizes : List ℕ) (goal : ℕ) (offsets : List ℕ) : Type 0 where
   pub room : Roomy sizes mostFacts
-  pub within : Within f offsets
+  pub costs : Costed f offsets
   pub steps : All (WfAchiever sizes) (map (achieverAt f) offsets)
   pub goal-is : WfPartial sizes (partialAt f goal)
 
@@ -54,4 +54,4 @@ pub record InPlace (f : List ℕ) (variables : ℕ) (offsets : List ℕ) : Type 
   pub sizes : take variables (drop 1 f) ≡ probe .sizes
   pub goal : partialAt f (1 + 2 * variables) ≡ probe .goal
   pub steps : map (stepAt f) offsets ≡ probe .steps
-  pub within : Within f offsets
+  pub costs : Costed f offsets

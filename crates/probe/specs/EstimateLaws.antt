@@ -11,8 +11,7 @@ use Rattle.facts.specs.Read.{accepted, refused}
 use Rattle.facts.specs.Bytes.{Bytes}
 use Rattle.facts.specs.Lists.{All}
 use Rattle.facts.specs.Partial.{Partial, partialAt, pastPartial, Alike}
-use Rattle.facts.specs.Fields.{wordAt}
-use Rattle.facts.specs.InPlaceLaws.{alike-partial, alike-past, alike-word}
+use Rattle.facts.specs.InPlaceLaws.{alike-partial}
 use Rattle.facts.specs.HeadLaws.{head-read}
 use Rattle.facts.specs.WellFormed.{WfPartial}
 use Rattle.facts.specs.State.{checkState}
@@ -29,20 +28,18 @@ use Rattle.estimate.specs.InTurn.{InTurn}
 use Rattle.estimate.specs.InTurnLaws.{Turning, turning-more, turning-end}
 use Rattle.probe.specs.Probe.{Step, WfStep}
 use Rattle.probe.specs.ProbeLaws.{probe-lines, probe-wf}
-use Rattle.probe.specs.InPlace.{probeAt, stepAt, Located}
-use Rattle.probe.specs.IndexLaws.{not-read, steps-in-place, accepted-probe, starts, run-within}
+use Rattle.probe.specs.InPlace.{probeAt, stepAt, Located, Costed}
+use Rattle.probe.specs.IndexLaws.{not-read, steps-in-place, costs-in-place, accepted-probe, starts}
 use Rattle.probe.specs.Estimate.{stepAchiever, probeEstimate, estimateProbe, achieverAt, afterStep, Ready, InPlace}
 
 -- ---- the offers of steps
 
 -- the offer of the step at an offset, from its parts
-pub step-offered : (f : List ℕ) (at n : ℕ) (of : ℕ → ℕ → Number) {effect place : ℕ} {offer : Number} {ranks : List ℕ} → Alike f effect (pastPartial f at) → place ≡ pastPartial f effect
-    → offer ≡ sum (sumFrom of 0 n (partialAt f at)) (exact (wordAt f place)) → HasRanks ranks (afterOffer (record { effect = partialAt f effect; number = offer }) of)
+pub step-offered : (f : List ℕ) (at n : ℕ) (of : ℕ → ℕ → Number) {effect cost : ℕ} {offer : Number} {ranks : List ℕ} → Alike f effect (pastPartial f at) → cost ≡ stepAt f at .cost
+    → offer ≡ sum (sumFrom of 0 n (partialAt f at)) (exact cost) → HasRanks ranks (afterOffer (record { effect = partialAt f effect; number = offer }) of)
     → HasRanks ranks (afterStep f at n of)
 unfolding stepAt afterStep
-step-offered f at n of {effect} {place} e q o h =
-    let cost = ap (wordAt f) q ∙ alike-word f (alike-past f e) in
-    offer-same of (sym (alike-partial f e)) (sym (o ∙ ap (λ (w : ℕ). sum (sumFrom of 0 n (partialAt f at)) (exact w)) cost)) h
+step-offered f at n of e q o h = offer-same of (sym (alike-partial f e)) (sym (o ∙ ap (λ (w : ℕ). sum (sumFrom of 0 n (partialAt f at)) (exact w)) q)) h
 
 -- a step that is never open offers nothing
 pub step-never : (f : List ℕ) (at n : ℕ) (ranks : List ℕ) → sumFrom (rankNumber ranks) 0 n (partialAt f at) ≡ never → HasRanks ranks (afterStep f at n (rankNumber ranks))
@@ -97,7 +94,7 @@ in-place f {n} {k} bytes h offsets loc few =
       sizes = ap (λ (n : ℕ). take n (drop 1 f)) (sym count) ∙ sym (head-read f 57 66 (l .head-is) .sizes) ∙ l .sizes;
       goal = st .goal;
       steps = ap (λ (j : ℕ). map (stepAt f) (take j offsets)) (sym (a .steps)) ∙ steps-in-place f offsets (a .reads) loc (omega (arith, a .steps));
-      within = run-within f h offsets loc few;
+      costs = subst (λ (j : ℕ). Costed f (take j offsets)) (a .steps) (costs-in-place f offsets (a .reads) loc (omega (arith, a .steps)));
     }
 
 module _ {f : List ℕ} {variables : ℕ} {offsets : List ℕ} (g : InPlace f variables offsets) where
@@ -121,7 +118,7 @@ module _ {f : List ℕ} {variables : ℕ} {offsets : List ℕ} (g : InPlace f va
         let w = g .wf in
         record {
           room = subst (λ (sizes : List ℕ). Roomy sizes mostFacts) (sym sizes-are) (roomy (g .probe .sizes) (w .variables) (omega arith) (w .sizes) (omega arith) (omega arith));
-          within = g .within;
+          costs = g .costs;
           steps = subst₂ (λ (sizes : List ℕ) (achievers : List Achiever). All (WfAchiever sizes) achievers) (sym sizes-are) (sym achievers-are) (steps-ready (g .probe .sizes) (g .probe .steps) (w .steps));
           goal-is = subst₂ WfPartial (sym sizes-are) (sym goal-is) (w .goal);
         }

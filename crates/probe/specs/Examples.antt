@@ -2,14 +2,13 @@
 use mathlib.Core.Path.{_≡_, refl}
 use Prim.Native.Nat.{ℕ}
 use mathlib.Core.List.{List, [], _∷_, _++_, map}
-use lib.Count.{ones}
 use lib.ListN.{length, set, replicate, take}
 use Rattle.facts.specs.Read.{Read, accepted, refused}
 use Rattle.facts.specs.Bytes.{numberAt}
 use Rattle.facts.specs.Partial.{Partial, writePartial}
 use Rattle.facts.specs.Fields.{readNumber, field, readCount, readValue, readMap, readWeight, readValues, readPartial, readOperator, readSizes, readHead, readEnd, writeOperator, writeHead}
 use Rattle.facts.specs.Run.{runFrom, atMost}
-use Rattle.probe.specs.Probe.{Step, Probe, stepMove, probeSum}
+use Rattle.probe.specs.Probe.{Probe, stepMove, probeSum}
 use Rattle.probe.specs.ProbeFile.{readStep, readStepCount, readSteps, readProbe, writeStep, writeProbe, checkProbe, runProbe}
 
 -- seven zero bytes

@@ -1,6 +1,6 @@
 -- Laws of going over the bytes of a probe file: the ways in which reading can go, and that steps in place are the steps that were read.
-use mathlib.Core.Path.{_≡_, refl, sym, _∙_}
-use Prim.Native.Nat.{ℕ, _+_, _≤_, _<_}
+use mathlib.Core.Path.{_≡_, refl, sym, ap, _∙_}
+use Prim.Native.Nat.{ℕ, _+_, _-_, _≤_, _<_}
 use native.Mathlib.Numerals.{add-one}
 use native.Mathlib.Omega.{arith}
 use mathlib.Core.Bool.{true, false}
@@ -20,7 +20,7 @@ use Rattle.facts.specs.OperatorLaws.{operator-read}
 use Rattle.facts.specs.InPlaceLaws.{word-is, past-read, alike-partial, alike-past, alike-word}
 use Rattle.probe.specs.Probe.{Step, maxSteps, perform}
 use Rattle.probe.specs.ProbeFile.{readStep, readStepCount, readSteps}
-use Rattle.probe.specs.InPlace.{stepAt, Marked}
+use Rattle.probe.specs.InPlace.{stepAt, Marked, CostBefore}
 
 -- ---- a step of the file f
 
@@ -35,15 +35,21 @@ module _ (f sizes : List ℕ) (at : ℕ) where
   pub record Step-read (st : Step) (e : ℕ) : Type 0 where
     pub same : stepAt f at ≡ st
     pub fits : at ≤ length f
+    pub ends : e ≤ length f
+    pub before : CostBefore f at e
 
   pub step-read : {st : Step} {e : ℕ} → readStep f sizes at ≡ accepted (st, e) → Step-read st e
   unfolding readStep
   step-read h =
       let a = through (readOperator f sizes at) h in
       let o = operator-read f sizes at (a .first) in
+      let word = word-is f (o .place) (o .weight .fits) (o .weight .value) in
+      let same = step-is f at (a .got .0 .pre) (a .got .0 .eff) (o .effect) (o .place) (a .got .0 .weight) (o .pre .same) (o .pre .next) (o .eff .same) (o .eff .next) word in
       carried (a .then) Step-read (record {
-        same = step-is f at (a .got .0 .pre) (a .got .0 .eff) (o .effect) (o .place) (a .got .0 .weight) (o .pre .same) (o .pre .next) (o .eff .same) (o .eff .next) (word-is f (o .place) (o .weight .fits) (o .weight .value));
+        same = same;
         fits = omega (arith, o .pre .next, o .pre .fits);
+        ends = omega (arith, o .weight .next, o .weight .fits);
+        before = record { place = o .place; ends = o .weight .next; cost = word ∙ sym (ap (λ (st : Step). st .cost) same) };
       })
 
   -- past a step is past its operator
@@ -54,6 +60,10 @@ module _ (f sizes : List ℕ) (at : ℕ) where
       go : (r : Read (Operator × ℕ)) → nextOf {X = Step} (_>>=_ r (λ (p : Operator × ℕ). accepted (record { pre = p .0 .pre; eff = p .0 .eff; cost = p .0 .weight }, p .1))) ≡ nextOf r
       go (accepted p) = refl
       go (refused n p) = refl
+
+-- two bytes before its end a step has its cost
+pub cost-before : (f : List ℕ) {at end : ℕ} → CostBefore f at end → wordAt f (end - 2) ≡ stepAt f at .cost
+cost-before f {end = end} b = let here : end - 2 ≡ b .place = omega (arith, b .ends) in ap (wordAt f) here ∙ b .cost
 
 -- ---- the step count
 

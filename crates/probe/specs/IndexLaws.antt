@@ -20,8 +20,11 @@ use Rattle.facts.specs.HeadLaws.{head-read, headed, headed-sizes, no-head}
 use Rattle.probe.specs.Probe.{Step, Probe, maxSteps, maxList, perform, stepMove, probeSum}
 use Rattle.probe.specs.ProbeFile.{readStep, readStepCount, readSteps, readProbe, checkProbe, runProbe}
 use Rattle.probe.specs.ProbeLaws.{probe-lines, count-most, move-at}
-use Rattle.probe.specs.InPlace.{probeAt, stepAt, moveAt, Within, Marked, Located}
-use Rattle.probe.specs.InPlaceLaws.{step-read}
+use Rattle.probe.specs.InPlace.{probeAt, stepAt, moveAt, Within, Marked, Located, CostBefore, Costed}
+use Rattle.probe.specs.InPlaceLaws.{step-read, steps-more}
+
+accepted-same : {x y : ℕ} → accepted x ≡ accepted y → x ≡ y
+accepted-same e = cc
 
 module _ (f : List ℕ) where
   -- what has no variables and steps is refused
@@ -68,6 +71,17 @@ module _ (f : List ℕ) where
       pub count-fits : (count ≤ maxSteps) × (at + 2 ≤ length f)
       count-fits = let m = count-most f at count-is in (m .0, m .2)
 
+      -- an accepted file has as many steps as it says
+      pub counted : {variables steps : ℕ} → probeAt f ≡ accepted (variables, steps) → steps ≡ count
+      unfolding probeAt readSteps
+      counted a =
+          let m = made (λ (p : Probe). (length (p .sizes), length (p .steps))) (readProbe f) a in
+          let l = probe-lines f (m .answer) in
+          let at-same : l .at₁ ≡ at = next-of (sym (l .head-is) ∙ head-is) in
+          let c : readStepCount f at ≡ accepted (l .count, l .at₂) = ap (readStepCount f) (sym at-same) ∙ l .count-is in
+          let long : length (m .from .steps) ≡ l .count = sym (each-length (λ (r : ℕ). readStep f (l .head .sizes)) (upFrom 0 (l .count)) (l .at₂) (l .steps-are)) ∙ length-upFrom 0 (l .count) in
+          sym (ap (λ (p : ℕ × ℕ). p .1) (m .value)) ∙ long ∙ value-of (sym c ∙ count-is)
+
       module _ {k : ℕ} (same : k ≡ n) where
         -- the domain sizes as they stand
         abbrev sizes : List ℕ
@@ -100,9 +114,9 @@ module _ (f : List ℕ) where
           probe-good l = rw (head-is, count-is, sizes-are, steps-are, le-leb (length f) end l) (ap₂ (λ (i j : ℕ). accepted (i, j)) (ap length (sym sizes-are) ∙ headed f 57 66 h .count) steps-count)
 
           -- the offsets that were noted are those of the steps
-          pub located : (offsets : List ℕ) → Marked f sizes count (at + 2) offsets → Located f offsets
+          pub located : length f ≤ end → (offsets : List ℕ) → Marked f sizes count (at + 2) offsets → Located f offsets
           unfolding readSteps
-          located offsets m = record {
+          located whole offsets m = record {
             lies = λ p r k st a.
                 let l = probe-lines f r in
                 let head-same : l .head ≡ head = value-of (sym (l .head-is) ∙ head-is) in
@@ -113,9 +127,18 @@ module _ (f : List ℕ) where
                 let sizes-same : p .sizes ≡ sizes = sym (l .sizes) ∙ ap (λ (h : Head). h .sizes) head-same ∙ sizes-are in
                 let all : readSteps f sizes count (at + 2) ≡ accepted (p .steps, l .at₃) =
                 subst₂ (λ (i j : ℕ). readSteps f sizes i j ≡ accepted (p .steps, l .at₃)) count-same next-same (subst (λ (ds : List ℕ). readSteps f ds (l .count) (l .at₂) ≡ accepted (p .steps, l .at₃)) (l .sizes ∙ sizes-same) (l .steps-are)) in
-                let few : k < count = omega (arith, at-length a, each-length (λ (r : ℕ). readStep f sizes) (upFrom 0 count) (at + 2) all, length-upFrom 0 count) in
+                let length-is : length (p .steps) ≡ count = sym (each-length (λ (r : ℕ). readStep f sizes) (upFrom 0 count) (at + 2) all) ∙ length-upFrom 0 count in
+                let few : k < count = omega (arith, at-length a, length-is) in
                 let o = each-at (λ (r : ℕ). readStep f sizes) 0 count (at + 2) all a (m .marks s k few) in
-                (o .0, ap (λ (ds : List ℕ). readStep f ds (getD offsets k 0)) sizes-same ∙ o .1);
+                let past : nextOf (readSteps f sizes (k + 1) (at + 2)) ≡ accepted (o .0) = steps-more f sizes (at + 2) k (m .marks s k few) (ap nextOf (o .1)) in (
+                  o .0,
+                  ap (λ (ds : List ℕ). readStep f ds (getD offsets k 0)) sizes-same ∙ o .1,
+                  λ l. accepted-same (sym past ∙ m .marks s (k + 1) (omega (arith, length-is))),
+                  λ l.
+                      let z : k + 1 ≡ count = omega (arith, length-is) in
+                      let last : o .0 ≡ end = accepted-same (sym past ∙ ap (λ (j : ℕ). nextOf (readSteps f sizes j (at + 2))) z ∙ s) in
+                      omega (arith, whole, step-read f sizes (getD offsets k 0) (o .1) .ends),
+                );
           }
 
 -- ---- a run by the offsets
@@ -131,6 +154,28 @@ module _ (f offsets : List ℕ) {p : Probe} (r : readProbe f ≡ accepted p) (lo
       let o = loc .lies p r k (getD (p .steps) k none) a in
       let s = step-read f (p .sizes) (getD offsets k 0) (o .1) in
       (getD (p .steps) k none, a, s .same, s .fits)
+
+  -- each step's cost stands where the step ends
+  cost-at : (k : ℕ) → k < count → (next : ℕ) × CostBefore f (getD offsets k 0) next × (k + 1 < count → next ≡ getD offsets (k + 1) 0) × (k + 1 ≡ count → next ≡ length f)
+  cost-at k l =
+      let none = stepAt f 0 in
+      let o = loc .lies p r k (getD (p .steps) k none) (at-getD (p .steps) k none l) in
+      (o .0, step-read f (p .sizes) (getD offsets k 0) (o .1) .before, o .2, o .3)
+
+  pub costs-in-place : count ≤ length offsets → Costed f (take count offsets)
+  costs-in-place few =
+      let len : length (take count offsets) ≡ count = length-take-le count offsets few in
+      record {
+        inner = λ k l.
+            let low : k < count = omega (arith, len) in
+            let next : k + 1 < count = omega (arith, len) in
+            let o = cost-at k low in
+            subst₂ (CostBefore f) (sym (getD-take count offsets k 0 low)) (o .2 next ∙ sym (getD-take count offsets (k + 1) 0 next)) (o .1);
+        last = λ k e.
+            let low : k < count = omega (arith, len) in
+            let o = cost-at k low in
+            subst₂ (CostBefore f) (sym (getD-take count offsets k 0 low)) (o .3 (e ∙ len)) (o .1);
+      }
 
   -- the steps as they stand are those of the probe that was read
   pub steps-in-place : count ≤ length offsets → map (stepAt f) (take count offsets) ≡ p .steps

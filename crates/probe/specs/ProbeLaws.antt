@@ -16,18 +16,16 @@ use Rattle.facts.specs.Lists.{upFrom, At}
 use Rattle.facts.specs.ListLaws.{length-upFrom, zip-length, zip-all, zip-map, all-zip, look, found, at-length}
 use Rattle.facts.specs.Bytes.{bytesOf, Bytes}
 use Rattle.facts.specs.BytesLaws.{little-bytes, two-below}
-use Rattle.facts.specs.Partial.{writePartial}
 use Rattle.facts.specs.State.{Inside}
 use Rattle.facts.specs.WellFormed.{WfPartial, WfHead}
 use Rattle.facts.specs.Run.{Move, next, blocked}
 use Rattle.facts.specs.RunLaws.{not-blocked, plan-answers}
 use Rattle.facts.specs.Fields.{Head, readOperator, readHead, readEnd, writeEach, writeHead}
 use Rattle.facts.specs.EachLaws.{each-zip}
-use Rattle.facts.specs.FieldLaws.{taken, weight-most}
-use Rattle.facts.specs.PartialReadLaws.{partial-read}
+use Rattle.facts.specs.FieldLaws.{taken}
 use Rattle.facts.specs.OperatorLaws.{operator-read}
 use Rattle.facts.specs.HeadLaws.{head-read}
-use Rattle.facts.specs.ReadBack.{operator-reads, Lies, lies-whole, lies-left, lies-right, Reads, field-reads, each-reads, weight-reads, partial-reads, head-reads}
+use Rattle.facts.specs.ReadBack.{operator-reads, Lies, lies-whole, lies-left, lies-right, Reads, field-reads, each-reads, head-reads}
 use Rattle.probe.specs.Probe.{Step, Probe, maxSteps, perform, stepMove, probeSum, ProbePlan, WfStep, WfProbe}
 use Rattle.probe.specs.ProbeFile.{readStep, readStepCount, readSteps, readProbe, writeStep, writeProbe}
 

@@ -1,4 +1,5 @@
 // The one pass over a probe file that checks it and notes where each step starts.
+use crate::Counted;
 use crate::Indexed;
 use crate::Probe;
 use facts::Field;
@@ -13,38 +14,51 @@ ghost use Rattle.facts.specs.Answers.{fieldAnswer, pastAnswer};
 ghost use Rattle.facts.specs.Fields.{nextOf, valueOf, headAt};
 ghost use Rattle.probe.specs.ProbeFile.{readStepCount, readSteps};
 ghost use Rattle.probe.specs.Answers.{indexedAnswer};
-ghost use Rattle.probe.specs.InPlace.{probeAt, Marked, Located};
+ghost use Rattle.probe.specs.InPlace.{probeAt, CountedIn, Marked, Located};
 
 // How many variables and steps a probe file has, and the offset of each step.
 pub fn index(file: &[u8], offsets: &mut [usize]) -> Indexed
     requires { ⌜ 576 ≤ length (now offsets) ⌝ }
     ensures { λ r. ⌜ (indexedAnswer r ≡ probeAt (now (file .entry))) × Located (now (file .entry)) (now (offsets .exit)) ⌝ }
 {
-    match facts::head::read_head(file, Probe::MAX_VARIABLES, Probe::MAX_VALUES) {
-        Headed::Refused(why) => Indexed::Refused(why),
-        Headed::Head(variables, at) => index_steps(file, variables, at, offsets),
+    match count_steps(file) {
+        Counted::Refused(why) => Indexed::Refused(why),
+        Counted::Steps(variables, at, steps) => index_steps(file, variables, at, steps, offsets),
     }
 }
 
-// The same, past the head, which ends at `at`.
-fn index_steps(file: &[u8], variables: usize, at: usize, offsets: &mut [usize]) -> Indexed
-    requires { ⌜ (headAt (now file) 57 66 ≡ accepted (variables, at)) × (576 ≤ length (now offsets)) ⌝ }
+// What stands before the steps: the head and the step count.
+pub fn count_steps(file: &[u8]) -> Counted
+    ensures { λ r. ⌜ CountedIn (now (file .entry)) r ⌝ }
+{
+    match facts::head::read_head(file, Probe::MAX_VARIABLES, Probe::MAX_VALUES) {
+        Headed::Refused(why) => Counted::Refused(why),
+        Headed::Head(variables, at) => match step_count(file, at) {
+            Field::Refused(why) => Counted::Refused(why),
+            Field::Value(count) => Counted::Steps(variables, at, count as usize),
+        },
+    }
+}
+
+// The same as the index of the file, past the head, which ends at `at`, and the step count.
+pub fn index_steps(
+    file: &[u8],
+    variables: usize,
+    at: usize,
+    steps: usize,
+    offsets: &mut [usize],
+) -> Indexed
+    requires { ⌜ (headAt (now file) 57 66 ≡ accepted (variables, at)) × (valueOf (readStepCount (now file) at) ≡ accepted steps) × (steps ≤ length (now offsets)) ⌝ }
     ensures { λ r. ⌜ (indexedAnswer r ≡ probeAt (now (file .entry))) × Located (now (file .entry)) (now (offsets .exit)) ⌝ }
 {
-    match step_count(file, at) {
-        Field::Refused(why) => Indexed::Refused(why),
-        Field::Value(count) => {
-            let steps = count as usize;
-            let sizes_end = 1 + variables;
-            match steps_end(file, at + 2, &file[1..sizes_end], steps, offsets) {
-                Past::Refused(why) => Indexed::Refused(why),
-                Past::Next(end) => {
-                    if end < file.len() {
-                        return Indexed::Refused(Refusal::Trailing(end));
-                    }
-                    Indexed::Steps(variables, steps)
-                }
+    let sizes_end = 1 + variables;
+    match steps_end(file, at + 2, &file[1..sizes_end], steps, offsets) {
+        Past::Refused(why) => Indexed::Refused(why),
+        Past::Next(end) => {
+            if end < file.len() {
+                return Indexed::Refused(Refusal::Trailing(end));
             }
+            Indexed::Steps(variables, steps)
         }
     }
 }

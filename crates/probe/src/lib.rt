@@ -11,10 +11,12 @@ use facts::Refusal;
 ghost use mathlib.Core.Path.{_≡_};
 ghost use Prim.Native.Nat.{_+_, _*_, _≤_};
 ghost use lib.ListN.{length, getD, take, drop};
+ghost use Rattle.facts.specs.Read.{accepted};
 ghost use Rattle.facts.specs.Answers.{checkedAnswer, ranAnswer};
+ghost use Rattle.facts.specs.Fields.{valueOf, headAt};
 ghost use Rattle.facts.specs.Partial.{partialAt};
 ghost use Rattle.facts.specs.Run.{runFrom};
-ghost use Rattle.probe.specs.ProbeFile.{checkProbe, runProbe};
+ghost use Rattle.probe.specs.ProbeFile.{readStepCount, checkProbe, runProbe};
 ghost use Rattle.estimate.specs.Answers.{estimatedAnswer};
 ghost use Rattle.probe.specs.InPlace.{moveAt};
 ghost use Rattle.probe.specs.Estimate.{estimateProbe, InPlace};
@@ -35,6 +37,15 @@ impl Probe {
 // How many variables and how many steps an accepted file has.
 pub enum Indexed {
     Steps(usize, usize),
+    Refused(Refusal),
+}
+
+// The array of offsets of a file that has few steps is for so many.
+const FEW_STEPS: usize = 128;
+
+// What stands before the steps: how many variables there are, where the head ends, and how many steps there are.
+pub enum Counted {
+    Steps(usize, usize, usize),
     Refused(Refusal),
 }
 
@@ -65,12 +76,36 @@ pub fn run(file: &[u8], list: &[u16]) -> Ran
     }
 }
 
-// The estimate from a state: the file's refusals, then 12 and 4 for the state.
+// The estimate from a state: the file's refusals, then 12 and 4 for the state. An array for all steps that a file may have is filled only where it is needed.
 pub fn estimate(file: &[u8], state: &[u8]) -> Estimated
     ensures { λ r. ⌜ estimatedAnswer r ≡ estimateProbe (now (file .entry)) (now (state .entry)) ⌝ }
 {
-    let mut offsets = [0; Probe::MAX_STEPS];
-    match index::index(file, &mut offsets) {
+    match index::count_steps(file) {
+        Counted::Refused(why) => Estimated::Refused(why),
+        Counted::Steps(variables, at, steps) => {
+            if steps <= FEW_STEPS {
+                let mut few = [0; FEW_STEPS];
+                return estimate_in(file, variables, at, steps, state, &mut few);
+            }
+            let mut offsets = [0; Probe::MAX_STEPS];
+            estimate_in(file, variables, at, steps, state, &mut offsets)
+        }
+    }
+}
+
+// The same past the head, which ends at `at`, and the step count: the steps' offsets are noted in `offsets`.
+fn estimate_in(
+    file: &[u8],
+    variables: usize,
+    at: usize,
+    steps: usize,
+    state: &[u8],
+    offsets: &mut [usize],
+) -> Estimated
+    requires { ⌜ (headAt (now file) 57 66 ≡ accepted (variables, at)) × (valueOf (readStepCount (now file) at) ≡ accepted steps) × (steps ≤ length (now offsets)) ⌝ }
+    ensures { λ r. ⌜ estimatedAnswer r ≡ estimateProbe (now (file .entry)) (now (state .entry)) ⌝ }
+{
+    match index::index_steps(file, variables, at, steps, offsets) {
         Indexed::Refused(why) => Estimated::Refused(why),
         Indexed::Steps(variables, steps) => estimate_from(
             file,

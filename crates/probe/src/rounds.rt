@@ -4,25 +4,44 @@ use estimate::ranks::NEVER;
 use estimate::ranks::UNSET;
 use estimate::ranks::sum_rank;
 ghost use mathlib.Core.Path.{_≡_};
+ghost use Prim.Native.Nat.{_<_};
 ghost use mathlib.Core.List.{map};
-ghost use lib.ListN.{length};
+ghost use lib.ListN.{length, getD};
 ghost use Rattle.facts.specs.Partial.{partialAt};
+ghost use Rattle.facts.specs.Fields.{wordAt};
 ghost use Rattle.estimate.specs.Number.{number};
 ghost use Rattle.estimate.specs.Additive.{additive};
 ghost use Rattle.estimate.specs.Ranks.{rankNumber, HasRanks, Roomy, Fresh, Fell};
 ghost use Rattle.estimate.specs.InTurn.{InTurn};
+ghost use Rattle.probe.specs.InPlace.{stepAt, Costed};
 ghost use Rattle.probe.specs.Estimate.{achieverAt, afterStep, Ready};
 
-// The array of ranks of a file that has few variables is for so many, and has so many places.
+// The arrays of ranks of files that have few variables: for so many, and with so many places each.
+const FEWEST: usize = 3;
+
+const FEWEST_FACTS: usize = 198;
+
+const FEWER: usize = 8;
+
+const FEWER_FACTS: usize = 528;
+
 const FEW: usize = 16;
 
 const FEW_FACTS: usize = 1056;
 
-// The estimate from a state: `offsets` has the offset of each step, and the goal starts at `goal`. An array for all variables that a file may have is filled only where it is needed.
+// The estimate from a state: `offsets` has the offset of each step, and the goal starts at `goal`. An array is filled in whole, so the smallest that has room for all facts is taken.
 pub fn settle(file: &[u8], sizes: &[u8], goal: usize, offsets: &[usize], state: &[u8]) -> Est
     requires { ⌜ Ready (now file) (now sizes) goal (now offsets) ⌝ }
     ensures { λ r. ⌜ number r ≡ additive (now (sizes .entry)) (map (achieverAt (now (file .entry))) (now (offsets .entry))) (partialAt (now (file .entry)) goal) (now (state .entry)) ⌝ }
 {
+    if sizes.len() <= FEWEST {
+        let mut fewest = [UNSET; FEWEST_FACTS];
+        return settle_in(file, sizes, goal, offsets, state, &mut fewest);
+    }
+    if sizes.len() <= FEWER {
+        let mut fewer = [UNSET; FEWER_FACTS];
+        return settle_in(file, sizes, goal, offsets, state, &mut fewer);
+    }
     if sizes.len() <= FEW {
         let mut few = [UNSET; FEW_FACTS];
         return settle_in(file, sizes, goal, offsets, state, &mut few);
@@ -55,18 +74,32 @@ fn settle_in(
 
 // All steps offer in turn, each by the numbers as they are then; whether a rank fell. There are n variables.
 fn offer_steps(file: &[u8], offsets: &[usize], n: usize, ranks: &mut [u64]) -> bool
+    requires { ⌜ Costed (now file) (now offsets) ⌝ }
     ensures { λ r. ⌜ InTurn n (map (achieverAt (now (file .entry))) (now (offsets .entry))) (now (ranks .entry)) (now (ranks .exit)) r ⌝ }
 {
     let mut fell = false;
     for k in 0..offsets.len() {
-        let more = offer_step(file, offsets[k], n, ranks);
+        let cost = cost_place(file, offsets, k);
+        let more = offer_step(file, offsets[k], cost, n, ranks);
         fell = fell || more;
     }
     fell
 }
 
-// The same for the step at an offset.
-fn offer_step(file: &[u8], at: usize, n: usize, ranks: &mut [u64]) -> bool
+// Where the cost of step number k stands: before the next step, or before the end of the file.
+fn cost_place(file: &[u8], offsets: &[usize], k: usize) -> usize
+    requires { ⌜ (k < length (now offsets)) × Costed (now file) (now offsets) ⌝ }
+    ensures { λ r. ⌜ wordAt (now (file .entry)) r ≡ stepAt (now (file .entry)) (getD (now (offsets .entry)) k 0) .cost ⌝ }
+{
+    if k + 1 < offsets.len() {
+        return offsets[k + 1] - 2;
+    }
+    file.len() - 2
+}
+
+// The same as for all steps for the step at an offset, whose cost stands at `cost`.
+fn offer_step(file: &[u8], at: usize, cost: usize, n: usize, ranks: &mut [u64]) -> bool
+    requires { ⌜ wordAt (now file) cost ≡ stepAt (now file) at .cost ⌝ }
     ensures { λ r. ⌜ HasRanks (now (ranks .exit)) (afterStep (now (file .entry)) at n (rankNumber (now (ranks .entry)))) ⌝ }
     ensures { λ r. ⌜ Fell (now (ranks .entry)) (now (ranks .exit)) r ⌝ }
 {
@@ -74,8 +107,6 @@ fn offer_step(file: &[u8], at: usize, n: usize, ranks: &mut [u64]) -> bool
     if NEVER <= known.rank {
         return false; // never is offered to no effect
     }
-    let effect = known.end;
-    let cost = effect + facts::partial::length_at(file, effect);
     let offer = sum_rank(known.rank, facts::number::word_at(file, cost) as u64);
-    estimate::offers::lower_at(file, effect, offer, ranks)
+    estimate::offers::lower_at(file, known.end, offer, ranks)
 }

@@ -7,12 +7,14 @@ pub mod RelaxedInPlace
 pub mod Estimate
 pub mod EstimatePass
 pub mod EstimateInPlace
+pub mod Sums
 -- The document's cases, computed.
 pub mod Examples
 -- Laws.
 pub mod LeastLaws
 pub mod PassLaws
 pub mod PassInPlaceLaws
+pub mod SumsLaws
 pub mod LeastByPass
 pub mod RelaxedLaws
 pub mod RelaxedInPlaceLaws

@@ -11,7 +11,8 @@ use Rattle.taskfile.specs.PartsInPlaceLaws.{edges-at, nodes-long, nodes-at}
 use Rattle.relaxation.specs.Pass.{edgeFor, Pass, leastAt, leastFrom, Filled}
 use Rattle.relaxation.specs.PassLaws.{at-value, Above, filled-start, filled-next, filled-first}
 
-zeros-at : (n t : ℕ) → _≡_ {A = ℕ} (getD (replicate n 0) t 0) 0
+-- a table of zeros has a zero everywhere
+pub zeros-at : (n t : ℕ) → _≡_ {A = ℕ} (getD (replicate n 0) t 0) 0
 zeros-at zero t = refl
 zeros-at (suc n) zero = refl
 zeros-at (suc n) (suc t) = zeros-at n t

@@ -19,14 +19,47 @@ ghost use Rattle.relaxation.specs.EstimateInPlace.{achieverIn, achieversIn, Pri
 // The ranks have room for so many facts, those of 24 variables.
 const FACTS: usize = 1584;
 
-// The array of ranks of a task that has few variables is for so many, and has so many places.
+// The arrays of ranks of tasks that have few variables: for so many, and with so many places each.
+const FEWEST: usize = 3;
+
+const FEWEST_FACTS: usize = 198;
+
 const FEW: usize = 8;
 
 const FEW_FACTS: usize = 528;
 
-// The estimate from a state: `action_at` has the offset of each action, `first_node` the index of its first node in `node_at`, and the goal starts at `goal`. An array for all variables that a
-// task may have is filled only where it is needed.
+// The estimate from a state: `action_at` has the offset of each action, `first_node` the index of its first node in `node_at`, and the goal starts at `goal`. An array is filled in whole, so the smallest
+// that has room for all facts is taken.
 pub fn settle(
+    file: &[u8],
+    sizes: &[u8],
+    goal: usize,
+    action_at: &[usize],
+    first_node: &[usize],
+    node_at: &[usize],
+    state: &[u8],
+) -> Est
+    requires { ⌜ Estimable (now file) (now sizes) goal (now «action_at») (now «first_node») (now «node_at») ⌝ }
+    ensures { λ r. ⌜ number r ≡ additive (now (sizes .entry)) (achieversIn (now (file .entry)) (now (sizes .entry)) (now («action_at» .entry)) (now («first_node» .entry)) (now («node_at» .entry)) 0 (length (now («action_at» .entry)))) (partialAt (now (file .entry)) goal) (now (state .entry)) ⌝ }
+{
+    if sizes.len() <= FEWEST {
+        let mut fewest = [UNSET; FEWEST_FACTS];
+        return settle_in(
+            file,
+            sizes,
+            goal,
+            action_at,
+            first_node,
+            node_at,
+            state,
+            &mut fewest,
+        );
+    }
+    settle_more(file, sizes, goal, action_at, first_node, node_at, state)
+}
+
+// The same for a task that may have more variables.
+fn settle_more(
     file: &[u8],
     sizes: &[u8],
     goal: usize,

@@ -1,17 +1,21 @@
--- `probe::index::index` meets its contract: the head, and then the rest. Assumes nothing.
-use mathlib.Core.Path.{sym, ap, _∙_}
-use Rattle.facts.specs.Answers.{headedAnswer}
-use Rattle.probe.specs.IndexLaws.{probe-no-head, located-none}
+-- `probe::index::index` meets its contract: what stands before the steps, and then the steps. Assumes nothing.
+use mathlib.Core.Path.{sym, subst}
+use native.Mathlib.Omega.{arith}
 use borrow.Author.Needs.{needs}
+use denote.Ref.{now}
+use Rattle.probe.specs.InPlace.{CountedIn}
+use Rattle.probe.specs.IndexLaws.{count-fits, located-none}
 use Rattle.probe.proofs.index.index.Statement.{statement}
 use Rattle.probe.proofs.index.index.Tie as tie
 
 index-steps-requires : tie.Need-index-steps-requires
-index-steps-requires c κs = (sym (c .before .before .before .before .read-head .ensures) ∙ ap headedAnswer (c .before .before .variables .given .1), c .before .before .before .before .before .before .before .pre)
+index-steps-requires c κs =
+    let known = subst (CountedIn (now (c .before .before .before .before .before .before .before .args .file))) (c .before .before .variables .given .1) (c .before .before .before .before .count-steps .ensures) in
+    (known .0, known .1, omega (arith, c .before .before .before .before .before .before .before .pre, count-fits _ (known .0) (known .1) .0))
 
 returns : tie.Need-returns
 returns c =
-    let e = probe-no-head _ (sym (c .before .before .before .read-head .ensures) ∙ ap headedAnswer (c .before .why .given .1)) in
+    let e = subst (CountedIn (now (c .before .before .before .before .before .before .args .file))) (c .before .why .given .1) (c .before .before .before .count-steps .ensures) in
     (sym e, located-none _ _ e)
 
 pub index-spec : {M : Type 1} → statement M

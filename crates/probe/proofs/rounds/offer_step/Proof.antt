@@ -1,9 +1,8 @@
--- `probe::rounds::offer_step` meets its contract: precondition, effect and cost follow one another, and never is offered to no effect. Assumes nothing.
-use mathlib.Core.Path.{sym, ap, ap₂, _∙_}
+-- `probe::rounds::offer_step` meets its contract: the effect follows the precondition, and never is offered to no effect. Assumes nothing.
+use mathlib.Core.Path.{sym, ap₂, _∙_}
 use native.Mathlib.Omega.{arith}
 use borrow.Author.Needs.{needs}
-use Rattle.facts.specs.InPlaceLaws.{past-is}
-use Rattle.estimate.specs.Number.{exact, sum}
+use Rattle.estimate.specs.Number.{sum}
 use Rattle.estimate.specs.NumberLaws.{ranked-exact, ranked-never}
 use Rattle.estimate.specs.RanksLaws.{fell-none}
 use Rattle.probe.specs.EstimateLaws.{step-never, step-offered}
@@ -15,11 +14,11 @@ returns c = (step-never _ _ _ _ (sym (c .before .before .sum-at .ensures .0) ∙
 
 returns-2 : tie.Need-returns-2
 returns-2 c =
-    let known = c .before .before .before .before .before .before .before .before .before .sum-at .ensures in
+    let known = c .before .before .before .before .before .before .before .before .sum-at .ensures in
     let word = c .before .before .before .before .before .word-at in
     let lowered = c .before .before .lower-at .ensures in (
-      step-offered _ _ _ _ (known .1 .there (omega (arith, c .before .before .before .before .before .before .before .if1 .left))) (past-is _ _ (c .before .before .before .before .before .before .length-at .ensures .0))
-          (c .before .before .before .before .sum-rank .ensures ∙ ap₂ sum (known .0) (ranked-exact (word .result) (omega (arith, word .ensures .1)) ∙ ap exact (word .ensures .0))) (lowered .0),
+      step-offered _ _ _ _ (known .1 .there (omega (arith, c .before .before .before .before .before .before .if1 .left))) (word .ensures .0 ∙ c .before .before .before .before .before .before .before .before .before .before .before .before .pre)
+          (c .before .before .before .before .sum-rank .ensures ∙ ap₂ sum (known .0) (ranked-exact (word .result) (omega (arith, word .ensures .1)))) (lowered .0),
       lowered .1,
     )
 
@@ -30,8 +29,6 @@ offer-step-spec =
     (λ c κs. search needs)
     (λ c. search needs)
     returns
-    (λ c κs. search needs)
-    (λ c. omega (arith, c .before .before .before .sum-at .ensures .1 .near, c .length-at .ensures .1))
     (λ c κs. search needs)
     (λ c. omega (arith, c .word-at .ensures .1))
     (λ c κs. search needs)

@@ -20,10 +20,9 @@ abbrev μ-loop : tie.MeasureT-loop
 
 loop-again : tie.Need-loop-again Inv-loop μ-loop
 loop-again c =
-    let call = c .before .before .before in
-    let l = call .before .before .before .before .loop in
-    let a = call .before .before .before .before .before .before .before .before .args in
-    let offered = call .offer-step .ensures in (
+    let l = c .before .before .before .before .before .before .before .before .loop in
+    let a = c .before .before .before .before .before .before .before .before .before .before .before .before .args in
+    let offered = c .before .before .before .offer-step .ensures in (
       omega arith,
       offered .1 .count ∙ l .inv .1,
       steps-more (now (a .file)) (now (a .offsets)) (a .n) (l .k) (l .inv .2) (omega arith) (offered .0) (offered .1)
@@ -43,9 +42,10 @@ offer-steps-spec =
     Inv-loop
     μ-loop
     (λ c. (omega arith, refl, turning-start))
+    (λ c κs. (omega arith, c .before .before .before .before .before .pre))
     (λ c. search needs)
     (λ c. omega arith)
-    (λ c κs. search needs)
+    (λ c κs. c .before .before .cost-place .ensures)
     (λ c. omega arith)
     (λ c. omega arith)
     loop-again

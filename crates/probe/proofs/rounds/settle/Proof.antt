@@ -1,4 +1,4 @@
--- `probe::rounds::settle` meets its contract: either array has room for all facts of the file, and is fresh. Assumes nothing.
+-- `probe::rounds::settle` meets its contract: each array has room for all facts of the file, and is fresh. Assumes nothing.
 use native.Mathlib.Omega.{arith}
 use borrow.Author.Needs.{needs}
 use Rattle.estimate.specs.Facts.{mostFacts}
@@ -11,8 +11,14 @@ settle-spec =
     tie.close
     (tie.spec
     (λ c. search needs)
-    (λ c κs. let s = c .before .before .before .before .before .before in (s .pre, roomy-few (s .pre .room) (omega arith), fresh-filled 1056 _ (omega arith)))
+    (λ c κs. let s = c .before .before .before .before .before .before in (s .pre, roomy-few (s .pre .room) (omega (arith, c .before .if1 .taken)), fresh-filled 198 _ (omega arith)))
     (λ c. c .before .settle-in .ensures)
     (λ c. search needs)
-    (λ c κs. let s = c .before .before .before .before .before .before in (s .pre, s .pre .room, fresh-filled mostFacts _ (omega arith)))
-    (λ c. c .before .settle-in2 .ensures))
+    (λ c κs. let s = c .before .before .before .before .before .before .before in (s .pre, roomy-few (s .pre .room) (omega (arith, c .before .if2 .taken)), fresh-filled 528 _ (omega arith)))
+    (λ c. c .before .settle-in2 .ensures)
+    (λ c. search needs)
+    (λ c κs. let s = c .before .before .before .before .before .before .before .before in (s .pre, roomy-few (s .pre .room) (omega (arith, c .before .if3 .taken)), fresh-filled 1056 _ (omega arith)))
+    (λ c. c .before .settle-in3 .ensures)
+    (λ c. search needs)
+    (λ c κs. let s = c .before .before .before .before .before .before .before .before in (s .pre, s .pre .room, fresh-filled mostFacts _ (omega arith)))
+    (λ c. c .before .settle-in4 .ensures))

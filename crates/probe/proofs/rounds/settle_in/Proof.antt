@@ -64,7 +64,7 @@ settle-in-spec =
     μ-loop
     (λ c κs. search needs)
     loop-holds
-    (λ c κs. search needs)
+    (λ c κs. c .before .before .before .before .before .before .before .before .before .before .before .pre .0 .costs)
     loop-less
     loop-again
     (λ c κs. search needs)

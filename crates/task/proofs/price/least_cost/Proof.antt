@@ -11,13 +11,15 @@ use Rattle.estimate.specs.Ranks.{rankNumber}
 use Rattle.relaxation.specs.Pass.{Filled}
 use Rattle.relaxation.specs.EstimatePass.{numberPass}
 use Rattle.relaxation.specs.EstimateInPlaceLaws.{ranked-start, ranked-next, ranked-end}
+use Rattle.relaxation.specs.Sums.{Apart}
+use Rattle.relaxation.specs.SumsLaws.{apart-start, apart-set}
 use borrow.Author.Needs.{needs}
 use Rattle.task.proofs.price.least_cost.Statement.{statement}
 use Rattle.task.proofs.price.least_cost.Tie as tie
 
 abbrev Inv-loop : tie.InvT-loop
 Inv-loop file sizes at nodes ranks diagram least₀ k₀ least k =
-    (k ≤ diagram .count) × (length least ≡ 66) × Filled (numberPass sizes (rankNumber ranks)) ranked (actionIn file sizes at nodes .nodes) k least
+    (k ≤ diagram .count) × (length least ≡ 66) × Filled (numberPass sizes (rankNumber ranks)) ranked (actionIn file sizes at nodes .nodes) k least × Apart least
 
 abbrev μ-loop : tie.MeasureT-loop
 μ-loop file sizes at nodes ranks diagram least₀ k₀ least k = k
@@ -31,7 +33,8 @@ loop-again c =
     let up = c .before .before .before .loop-test .taken in (
       omega (arith, l .inv .0),
       length-set (l .least) (l .k) e ∙ l .inv .1,
-      ranked-next (s .pre) (rankNumber (now (s .args .ranks))) e (omega (arith, l .inv .0, d .1, up)) (c .before .before .offset-at .ensures) (omega (arith, up)) (l .inv .2) (omega (arith, l .inv .0, l .inv .1, d .1, s .pre .few)) (c .least-rank .ensures),
+      ranked-next (s .pre) (rankNumber (now (s .args .ranks))) e (omega (arith, l .inv .0, d .1, up)) (c .before .before .offset-at .ensures) (omega (arith, up)) (l .inv .2) (omega (arith, l .inv .0, l .inv .1, d .1, s .pre .few)) (c .least-rank .ensures .0),
+      apart-set (l .inv .3) (c .least-rank .ensures .1) (omega (arith, l .inv .0, l .inv .1, d .1, s .pre .few)),
     )
 
 returns : tie.Need-returns Inv-loop μ-loop
@@ -51,11 +54,11 @@ least-cost-spec =
     Inv-loop
     μ-loop
     (λ c κs. search needs)
-    (λ c. (omega arith, refl, ranked-start (c .before .before .before .before .before .pre) (rankNumber (now (c .before .before .before .before .before .args .ranks))) 66 (c .diagram-at .ensures .1)))
+    (λ c. (omega arith, refl, ranked-start (c .before .before .before .before .before .pre) (rankNumber (now (c .before .before .before .before .before .args .ranks))) 66 (c .diagram-at .ensures .1), apart-start 66))
     (λ c. omega (arith, c .loop-test .taken))
     (λ c κs. search needs)
     (λ c. search needs)
-    (λ c κs. search needs)
+    (λ c κs. c .before .before .before .loop .inv .3)
     (λ c. omega (arith, c .before .before .before .before .loop .inv .0, c .before .before .before .before .before .diagram-at .ensures .3))
     (λ c. omega (arith, c .before .before .before .before .loop .inv .0, c .before .before .before .before .before .diagram-at .ensures .1, c .before .before .before .before .before .before .before .before .before .before .pre .few))
     (λ c. omega (arith, c .before .before .before .loop-test .taken))
