@@ -91,9 +91,14 @@ module _ (f : List ℕ) {sizes : List ℕ} {m i at end : ℕ} {nd : Node} (r : N
   var-here : getD f at 0 ≡ nd .var
   var-here = sym (number-one f at (omega (arith, r .var .fits))) ∙ r .var .value
 
-  -- It is one of the variables.
+  -- The last edge ends within the file.
+  edges-fit : (count : ℕ) → length (nd .edges) ≡ count → at + (1 + edgeBytes * count) ≤ length f
+  edges-fit zero e = omega (arith, r .var .fits)
+  edges-fit (suc count) e = omega (arith, node-edge f r (at-some (nd .edges) count (omega (arith, e)) .1) (at + (1 + edgeBytes * count)) refl .fits)
+
+  -- It tests one of the variables, and ends within the file.
   tests : Tests f sizes at
-  tests = record { fits = omega (arith, r .var .fits); below = rw var-here (r .var .under) }
+  tests = record { fits = edges-fit _ (r .edge-count ∙ ap (λ (v : ℕ). getD sizes v 0) (sym var-here)); below = rw var-here (r .var .under) }
 
   -- A node.
   node-here : nodeIn f sizes at ≡ nd
