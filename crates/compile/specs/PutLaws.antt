@@ -4,19 +4,21 @@ use mathlib.Core.List.{List, [], _∷_, _++_, append-nil, append-assoc}
 use Prim.Native.Nat.{ℕ, suc, _+_, _-_, _^_, _≤_, _<_}
 use native.Mathlib.Omega.{arith}
 use lib.Count.{ones}
-use lib.ListN.{length, getD, take, drop, length-append, length-drop}
+use lib.ListN.{length, getD, take, drop, length-append, length-drop, drop-of-length-le}
 use lib.Pow.{pow-mono}
-use lib.Seq.{length-take-le}
+use lib.Seq.{length-take-le, getD-take, getD-drop}
 use borrow.Rule.Slice.PartMut.{putMid}
 use Rattle.facts.specs.Read.{accepted}
 use Rattle.facts.specs.Write.{over, fitting, Wrote}
 use Rattle.facts.specs.WriteLaws.{fitting-all, wrote-inside, wrote-room, wrote-then}
 use Rattle.facts.specs.Bytes.{bytesOf, numberAt}
-use Rattle.facts.specs.InPlaceLaws.{past-is}
+use Rattle.facts.specs.BytesLaws.{number-two}
+use Rattle.facts.specs.InPlaceLaws.{past-is, word-is}
 use Rattle.facts.specs.Partial.{Partial, writePartial, partialAt, standingAt, partialBytes, empty, pastPartial}
 use Rattle.facts.specs.PartialLaws.{length-written, partial-here}
 use Rattle.facts.specs.Fields.{readNumber, wordAt, writeOperator}
 use Rattle.facts.specs.FieldLaws.{number-read}
+use Rattle.taskfile.specs.TaskFile.{edgeBytes}
 use Rattle.taskfile.specs.WalkInPlace.{incomingPlace}
 use Rattle.probe.specs.ProbeFile.{writeStep}
 use Rattle.compilation.specs.Extend.{extend}
@@ -31,6 +33,14 @@ wrote-fit {bytes} {before} {now} {n} h w = rw (fitting-all bytes before h) at w
 -- So many bytes were written as they are, whatever the writer answers.
 pub wrote-counted : {bytes before now : List ℕ} {n k : ℕ} → k ≡ length bytes → Wrote bytes before now n → Wrote bytes before now k
 wrote-counted h w = record { count = h; buffer = w .buffer }
+
+-- Just the front of a buffer was lent that has room for what is written.
+pub wrote-front : {bytes before last : List ℕ} {k n : ℕ} → k ≡ length bytes → k ≤ length before → Wrote bytes (take k before) last n → Wrote bytes before (last ++ drop k before) n
+unfolding over
+wrote-front {bytes} {before} {last} {k} e h w =
+    let none : drop (length bytes) (take k before) ≡ [] = drop-of-length-le (take k before) {i = length bytes} (omega (arith, e, length-take-le k before h)) in
+    let all : last ≡ bytes = w .buffer ∙ ap (λ (xs : List ℕ). bytes ++ xs) none ∙ append-nil bytes in
+    record { count = w .count; buffer = rw (all, e) }
 
 -- Two further facts, as bits and values.
 pub extend-two : (p : Partial) (v w x y : ℕ) → widened p (2 ^ v + 2 ^ w) (x ∷ y ∷ []) ≡ extend (extend p v x) w y
@@ -93,6 +103,24 @@ module _ {before now : List ℕ} {n : ℕ} where
 -- The marker of an action, as the code adds it up.
 marker-is : (n a : ℕ) → n + (1 + a) ≡ marker n a
 marker-is n a = omega arith
+
+-- The bytes of an edge by themselves: its target and its weight.
+module _ (f : List ℕ) (at k : ℕ) (three : k ≡ edgeBytes) where
+  abbrev edge : List ℕ
+  edge = take k (drop at f)
+
+  byte-in : (i j : ℕ) → i < edgeBytes → at + i ≡ j → getD edge i 0 ≡ getD f j 0
+  byte-in i j h e = getD-take k (drop at f) i 0 (omega arith) ∙ getD-drop at f i 0 ∙ ap (λ (o : ℕ). getD f o 0) e
+
+  pub edge-target : getD edge 0 0 ≡ getD f at 0
+  edge-target = byte-in 0 at (omega arith) (omega arith)
+
+  pub edge-weight : at + edgeBytes ≤ length f → wordAt edge 1 ≡ wordAt f (at + 1)
+  edge-weight h =
+      let long : length edge ≡ k = length-take-le k (drop at f) (simp length-drop (omega arith)) in
+      let low = byte-in 1 (at + 1) (omega arith) refl in
+      let high = byte-in 2 (at + 1 + 1) (omega arith) (omega arith) in
+      word-is edge 1 (omega (arith, long)) (omega (arith, number-two edge 1 (omega (arith, long)), number-two f (at + 1) (omega arith), low, high)) ∙ sym (word-is f (at + 1) (omega arith) refl)
 
 -- An edge's step is written from the bytes of its edge.
 pub wrote-edge : {before now : List ℕ} {k : ℕ} (f : List ℕ) (at n a i v d : ℕ) {t w : ℕ} → t ≡ getD f at 0 → w ≡ wordAt f (at + 1)

@@ -1,4 +1,5 @@
 // The steps of actions, each written straight after the last one.
+use crate::step::EDGE_BYTES;
 use crate::step::put_edge;
 use crate::step::put_end;
 use crate::step::put_start;
@@ -15,9 +16,6 @@ ghost use Rattle.taskfile.specs.WalkInPlace.{incomingPlace};
 ghost use Rattle.probe.specs.ProbeFile.{writeStep};
 ghost use Rattle.compilation.specs.Compile.{flat, nodeSteps, actionSteps};
 ghost use Rattle.taskfile.specs.PartsInPlace.{nodeIn, nodesIn, actionIn, actionsIn, Tests, Stood};
-
-// The bytes of an edge, target and weight.
-const EDGE_BYTES: usize = 3;
 
 // The steps of all actions: `action_at` has the offset of each, `incoming_at` that of its incoming weight, `first_node` the index of its first node in `node_at`.
 pub fn put_actions(

@@ -10,6 +10,11 @@ ghost use Rattle.facts.specs.Write.{Wrote};
 ghost use Rattle.compilation.specs.Extend.{extend};
 ghost use Rattle.compile.specs.InPlace.{widened};
 
+// The bytes of a partial state with one fact, and with two: lent just these, its writer has nothing to test.
+const ONE_FACT: usize = 9;
+
+const TWO_FACTS: usize = 10;
+
 // One byte.
 pub fn put_byte(out: &mut [u8], byte: u8) -> usize
     requires { ⌜ 1 ≤ length (now out) ⌝ }
@@ -85,8 +90,7 @@ pub fn put_two(v: usize, x: u8, w: usize, y: u8, out: &mut [u8]) -> usize
 {
     let lower = [x];
     let upper = [y];
-    facts::write::write_partial(out, two_bits(v, w), &lower, &upper);
-    10
+    facts::write::write_partial(&mut out[..TWO_FACTS], two_bits(v, w), &lower, &upper)
 }
 
 // The fact of one variable.
@@ -96,6 +100,5 @@ pub fn put_one(v: usize, x: u8, out: &mut [u8]) -> usize
 {
     let none: [u8; 0] = [];
     let value = [x];
-    facts::write::write_partial(out, bit(v), &none, &value);
-    9
+    facts::write::write_partial(&mut out[..ONE_FACT], bit(v), &none, &value)
 }

@@ -11,12 +11,16 @@ ghost use Prim.Native.Nat.{_+_, _≤_, _<_};
 ghost use lib.ListN.{length};
 ghost use Rattle.facts.specs.Partial.{partialAt, writePartial, pastPartial};
 ghost use Rattle.facts.specs.Write.{Wrote};
+ghost use Rattle.taskfile.specs.TaskFile.{edgeBytes};
 ghost use Rattle.taskfile.specs.WalkInPlace.{incomingPlace};
 ghost use Rattle.probe.specs.ProbeFile.{writeStep};
 ghost use Rattle.compilation.specs.Extend.{extend};
 ghost use Rattle.compilation.specs.Compile.{edgeStep};
 ghost use Rattle.taskfile.specs.PartsInPlace.{edgeIn, Stands};
 ghost use Rattle.compile.specs.InPlace.{startIn, endIn};
+
+// The bytes of an edge, target and weight.
+pub const EDGE_BYTES: usize = 3;
 
 // The partial state at an offset, which ends at `end`, with semaphore and marker of action a at 0.
 pub fn put_cleared(file: &[u8], at: usize, end: usize, n: usize, a: usize, out: &mut [u8]) -> usize
@@ -59,12 +63,14 @@ pub fn put_edge(
     d: u8,
     out: &mut [u8],
 ) -> usize
-    requires { ⌜ (v < 57) × (n + (1 + a) < 57) × (at ≤ length (now file) + 1024) ⌝ }
+    requires { ⌜ (v < 57) × (n + (1 + a) < 57) × (at + edgeBytes ≤ length (now file)) ⌝ }
     requires { ⌜ 21 ≤ length (now out) ⌝ }
     ensures { λ r. ⌜ Wrote (writeStep (edgeStep n a i v d (edgeIn (now (file .entry)) at))) (now (out .entry)) (now (out .exit)) r ⌝ }
 {
-    let target = byte_at(file, at);
-    let weight = word_at(file, at + 1);
+    let end = at + EDGE_BYTES;
+    let edge = &file[at..end];
+    let target = byte_at(edge, 0);
+    let weight = word_at(edge, 1);
     let pre = put_two(v, d, n + (1 + a), i, out);
     let eff = pre + put_one(n + (1 + a), target, &mut out[pre..]);
     eff + put_word(&mut out[eff..], weight)

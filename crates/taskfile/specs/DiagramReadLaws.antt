@@ -12,13 +12,14 @@ use Rattle.facts.specs.ReadLaws.{through, checked, value-of, carried}
 use Rattle.facts.specs.Lists.{upFrom, All, Zip, nil, cons, At, here, there}
 use Rattle.facts.specs.ListLaws.{length-upFrom, at-none, at-getD, all-at}
 use Rattle.facts.specs.Bytes.{numberAt, Bytes}
-use Rattle.facts.specs.BytesLaws.{two-below}
+use Rattle.facts.specs.BytesLaws.{number-one, two-below}
 use Rattle.facts.specs.Fields.{each, readCount, readWeight}
 use Rattle.facts.specs.EachLaws.{each-split, each-zip, each-length, each-next}
 use Rattle.facts.specs.FieldLaws.{Counted, Valued, taken, count-read, weight-read}
 use Rattle.facts.specs.FrontLaws.{each-most}
 use Rattle.taskfile.specs.Task.{Edge, Node, maxValues, maxWeight, level, WfNode}
 use Rattle.taskfile.specs.TaskFile.{edgeBytes, nodeBytes, checkTargets, checkRising, readVariable, readTarget, readEdge, readEdges, readNode, readNodes, readDiagram}
+use Rattle.taskfile.specs.PartsInPlace.{Tests}
 
 -- each domain size is in its range
 abbrev pub Small : List ℕ → Type 0
@@ -138,6 +139,17 @@ module _ (f : List ℕ) where
   unfolding readEdges
   node-edge {sizes} {m} {i} {at} {nd} r {d} a o h =
       edge-read m i o (each-lies (λ (x : ℕ). readEdge f m i) edgeBytes (λ x e at end g. edge-read m i at g .next) 0 (getD sizes (nd .var) 0) (at + 1) d o (r .edges) a (omega arith) (omega arith))
+
+  -- its last edge ends within the file
+  node-ends-by : {sizes : List ℕ} {m i at : ℕ} {nd : Node} {end : ℕ} → Node-read sizes m i at nd end → (count : ℕ) → length (nd .edges) ≡ count → at + (1 + edgeBytes * count) ≤ length f
+  node-ends-by r zero e = omega (arith, r .var .fits)
+  node-ends-by {at = at} {nd = nd} r (suc count) e = omega (arith, node-edge r (at-getD (nd .edges) count (record { target = 0; weight = 0 }) (omega (arith, e))) (at + (1 + edgeBytes * count)) refl .fits)
+
+  -- it tests one of the variables, and ends within the file
+  pub node-tests : {sizes : List ℕ} {m i at : ℕ} {nd : Node} {end : ℕ} → Node-read sizes m i at nd end → Tests f sizes at
+  node-tests {sizes} {at = at} {nd = nd} r =
+      let var : getD f at 0 ≡ nd .var = sym (number-one f at (omega (arith, r .var .fits))) ∙ r .var .value in
+      record { fits = node-ends-by r _ (r .edge-count ∙ ap (λ (v : ℕ). getD sizes v 0) (sym var)); below = rw var (r .var .under) }
 
   pub node-most : (sizes : List ℕ) (m i at : ℕ) {nd : Node} {end : ℕ} → Small sizes → readNode f sizes m i at ≡ accepted (nd, end) → end ≤ at + nodeMost
   node-most sizes m i at {nd} small h =

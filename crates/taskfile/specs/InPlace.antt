@@ -1,9 +1,8 @@
 -- Diagrams in place: what code does that goes over the bytes of a file, without reading it into values, and what the index of a file holds.
 use mathlib.Core.Path.{_≡_}
-use Prim.Native.Nat.{ℕ, zero, suc, _+_, _-_, _≤_, _<_}
-use mathlib.Core.Bool.{true, false}
+use Prim.Native.Nat.{ℕ, zero, suc, _+_, _<_}
 use mathlib.Core.List.{List}
-use lib.Dec.{leb, ltb}
+use lib.Dec.{ltb}
 use lib.ListN.{length, getD, take}
 use Rattle.facts.specs.Read.{Read, accepted, check, withValue, _>>=_}
 use Rattle.facts.specs.Lists.{total, upFrom, At}
@@ -11,34 +10,32 @@ use Rattle.facts.specs.Fields.{each, nextOf}
 use Rattle.taskfile.specs.Task.{Node, Action, Task, maxNodes}
 use Rattle.taskfile.specs.TaskFile.{edgeBytes, readNode, readNodes, readDiagram, readAction, readActions, readTask}
 
--- ---- the variables along the edges, of a diagram with m nodes that begin at these offsets
+-- ---- the variables along the edges, by a row that has the variable of each node by its number
 
-module _ (f sizes : List ℕ) (m : ℕ) (offsets : List ℕ) where
-  -- the variable of node k, and for the terminal the number of variables
-  unfoldable pub levelAt : ℕ → ℕ
-  levelAt k = elim (leb k m) [ true ↦ getD f (getD offsets (k - 1) 0) 0 | false ↦ length sizes ]
+-- what stands in the row for the terminal
+abbrev pub terminalLevel : ℕ
+terminalLevel = 255
 
+module _ (f levels : List ℕ) where
   -- each of the `count` targets from an offset on has a variable above v, else 6 at the target's byte
   unfoldable pub targetsRise : ℕ → ℕ → ℕ → Read (Unit {0})
   targetsRise v zero at = accepted tt
   targetsRise v (suc count) at = do
-    _ ← check (ltb v (levelAt (getD f at 0))) 6 at
+    _ ← check (ltb v (getD levels (getD f at 0) terminalLevel)) 6 at
     targetsRise v count (at + edgeBytes)
 
-  -- the same for the edges of each of `count` nodes, the first of which has the index j
+-- the same for the edges of each of `count` nodes at these offsets, the first of which has the index j
+module _ (f sizes offsets levels : List ℕ) where
   unfoldable pub nodesRise : ℕ → ℕ → Read (Unit {0})
   nodesRise j zero = accepted tt
   nodesRise j (suc count) = do
-    _ ← targetsRise (getD f (getD offsets j 0) 0) (getD sizes (getD f (getD offsets j 0) 0) 0) (getD offsets j 0 + 1)
+    _ ← targetsRise f levels (getD f (getD offsets j 0) 0) (getD sizes (getD f (getD offsets j 0) 0) 0) (getD offsets j 0 + 1)
     nodesRise (suc j) count
 
--- the same by a row that has the variable of each node: that of node k, of m, and for the terminal the number of variables
-unfoldable pub levelBy : ℕ → ℕ → List ℕ → ℕ → ℕ
-levelBy variables m levels k = elim (leb k m) [ true ↦ getD levels k 0 | false ↦ variables ]
-
--- `levels` has the variable of each of m nodes that begin at these offsets, by its number; at 0 stands the first one's
+-- `levels` has the variable of each of m nodes that begin at these offsets, by its number
 pub record Levels (f : List ℕ) (m : ℕ) (offsets levels : List ℕ) : Type 0 where
-  pub level : (k : ℕ) → k ≤ m → getD f (getD offsets (k - 1) 0) 0 ≡ getD levels k 0
+  pub own : (j : ℕ) → j < m → getD levels (1 + j) terminalLevel ≡ getD f (getD offsets j 0) 0
+  pub terminal : (k : ℕ) → m < k → getD levels k terminalLevel ≡ terminalLevel
 
 -- ---- what the index holds
 

@@ -8,8 +8,8 @@ use native.Mathlib.Omega.{arith}
 use mathlib.Core.Bool.{Bool, true, false, _&&_}
 use mathlib.Core.List.{List, [], _∷_, _++_, map, append-nil}
 use lib.Dec.{leb, ltb}
-use lib.ListN.{length, getD, take, drop, length-append, length-drop, drop-of-length-le, List·getD-append}
-use lib.Seq.{getD-take, getD-drop, take-all, drop-at, length-take-le}
+use lib.ListN.{length, getD, set, take, drop, replicate, length-append, length-drop, drop-of-length-le, List·getD-append}
+use lib.Seq.{getD-take, getD-drop, getD-set-same, getD-set-other, take-all, drop-at, length-take-le}
 use borrow.Rule.Slice.PartMut.{putMid}
 use borrow.Author.Tests.{le-leb, lt-leb, le-ltb, lt-ltb}
 use Rattle.facts.specs.Read.{Read, accepted, refused, check, withValue, _>>=_}
@@ -20,10 +20,11 @@ use Rattle.facts.specs.BytesLaws.{number-one}
 use Rattle.facts.specs.Fields.{each, nextOf, valueOf, readNumber, readCount, readWeight}
 use Rattle.facts.specs.EachLaws.{next-snoc, each-on, each-stops, each-at, each-length}
 use Rattle.facts.specs.FieldLaws.{Counted, byte-ends, byte-wrong, byte-good, number-reads, field-refused, field-good, count-read}
-use Rattle.taskfile.specs.Task.{Edge, Node, level}
+use Rattle.taskfile.specs.Task.{Edge, Node, maxVariables, level}
 use Rattle.taskfile.specs.TaskFile.{edgeBytes, nodeBytes, checkTargets, checkRising, readVariable, readTarget, readEdge, readEdges, readNode, readNodes, readDiagram}
-use Rattle.taskfile.specs.InPlace.{levelAt, targetsRise, nodesRise, levelBy, Levels, readFirst, Marked, diagramAt, Placed}
-use Rattle.taskfile.specs.DiagramReadLaws.{edge-read, node-read, diagram-read}
+use Rattle.taskfile.specs.InPlace.{terminalLevel, targetsRise, nodesRise, Levels, readFirst, Marked, diagramAt, Placed}
+use Rattle.taskfile.specs.PartsInPlace.{Tests}
+use Rattle.taskfile.specs.DiagramReadLaws.{edge-read, node-read, node-tests, diagram-read}
 
 -- ---- targets ahead of node i, of m
 
@@ -102,74 +103,84 @@ module _ (f : List ℕ) where
 
 -- ---- the ways in which the checks in place can go
 
-pub level-terminal : (variables m : ℕ) (levels : List ℕ) (k : ℕ) → m < k → levelBy variables m levels k ≡ variables
-unfolding levelBy
-level-terminal variables m levels k l = rw (lt-leb k m l, levelBy)
+module _ (f levels : List ℕ) (v at : ℕ) where
+  abbrev here-above : ℕ
+  here-above = getD levels (getD f at 0) terminalLevel
 
-pub level-node : (variables m : ℕ) (levels : List ℕ) (k : ℕ) → k ≤ m → levelBy variables m levels k ≡ getD levels k 0
-unfolding levelBy
-level-node variables m levels k l = rw (le-leb k m l, levelBy)
+  pub targets-fall : (left : ℕ) → 0 < left → here-above ≤ v → targetsRise f levels v left at ≡ refused 6 at
+  unfolding targetsRise
+  targets-fall zero l h = absurd (omega arith)
+  targets-fall (suc left) l h = rw (le-ltb v here-above h)
 
-module _ (f sizes : List ℕ) (m : ℕ) (offsets : List ℕ) where
-  level-last : (k : ℕ) → m < k → levelAt f sizes m offsets k ≡ length sizes
-  unfolding levelAt
-  level-last k l = rw (lt-leb k m l, levelAt)
+  pub targets-on : (left : ℕ) → 0 < left → v < here-above → targetsRise f levels v left at ≡ targetsRise f levels v (left - 1) (at + edgeBytes)
+  unfolding targetsRise
+  targets-on zero l h = absurd (omega arith)
+  targets-on (suc left) l h =
+      let e : left ≡ suc left - 1 = omega arith in
+      rw (lt-ltb v here-above h) (ap (λ (k : ℕ). targetsRise f levels v k (at + edgeBytes)) e)
 
-  level-own : (k : ℕ) → k ≤ m → levelAt f sizes m offsets k ≡ getD f (getD offsets (k - 1) 0) 0
-  unfolding levelAt
-  level-own k l = rw (le-leb k m l, levelAt)
+  pub targets-done : (left : ℕ) → left ≤ 0 → targetsRise f levels v left at ≡ accepted tt
+  unfolding targetsRise
+  targets-done zero l = refl
+  targets-done (suc left) l = absurd (omega arith)
 
-  -- by the row that was noted
-  pub level-by : {levels : List ℕ} → Levels f m offsets levels → (k : ℕ) → levelBy (length sizes) m levels k ≡ levelAt f sizes m offsets k
-  level-by {levels} h k =
-      elim (decLe k m) [
-        | yes l ↦ level-node (length sizes) m levels k l ∙ sym (h .level k l) ∙ sym (level-own k l)
-        | no l ↦ level-terminal (length sizes) m levels k (lt-of-not-le l) ∙ sym (level-last k (lt-of-not-le l))
-      ]
-
-  module _ (v at : ℕ) where
-    pub targets-fall : (left : ℕ) → 0 < left → levelAt f sizes m offsets (getD f at 0) ≤ v → targetsRise f sizes m offsets v left at ≡ refused 6 at
-    unfolding targetsRise
-    targets-fall zero l h = absurd (omega arith)
-    targets-fall (suc left) l h = rw (le-ltb v (levelAt f sizes m offsets (getD f at 0)) h)
-
-    pub targets-on : (left : ℕ) → 0 < left → v < levelAt f sizes m offsets (getD f at 0)
-        → targetsRise f sizes m offsets v left at ≡ targetsRise f sizes m offsets v (left - 1) (at + edgeBytes)
-    unfolding targetsRise
-    targets-on zero l h = absurd (omega arith)
-    targets-on (suc left) l h =
-        let e : left ≡ suc left - 1 = omega arith in
-        rw (lt-ltb v (levelAt f sizes m offsets (getD f at 0)) h) (ap (λ (k : ℕ). targetsRise f sizes m offsets v k (at + edgeBytes)) e)
-
-    pub targets-done : (left : ℕ) → left ≤ 0 → targetsRise f sizes m offsets v left at ≡ accepted tt
-    unfolding targetsRise
-    targets-done zero l = refl
-    targets-done (suc left) l = absurd (omega arith)
-
+module _ (f sizes offsets levels : List ℕ) (j : ℕ) where
   -- the targets of the node that has the index j
-  abbrev pub NodeRises : ℕ → Read (Unit {0})
-  NodeRises j = targetsRise f sizes m offsets (getD f (getD offsets j 0) 0) (getD sizes (getD f (getD offsets j 0) 0) 0) (getD offsets j 0 + 1)
+  abbrev pub NodeRises : Read (Unit {0})
+  NodeRises = targetsRise f levels (getD f (getD offsets j 0) 0) (getD sizes (getD f (getD offsets j 0) 0) 0) (getD offsets j 0 + 1)
 
-  pub node-rises : (j : ℕ) {at v count : ℕ} → at ≡ getD offsets j 0 → v ≡ getD f at 0 → count ≡ getD sizes v 0 → NodeRises j ≡ targetsRise f sizes m offsets v count (at + 1)
-  node-rises j a b c = rw (c, b, a)
+  pub node-rises : {at v count : ℕ} → at ≡ getD offsets j 0 → v ≡ getD f at 0 → count ≡ getD sizes v 0 → NodeRises ≡ targetsRise f levels v count (at + 1)
+  node-rises a b c = rw (c, b, a)
 
-  module _ (j : ℕ) where
-    pub nodes-fall : (left : ℕ) {n p : ℕ} → 0 < left → NodeRises j ≡ refused n p → nodesRise f sizes m offsets j left ≡ refused n p
-    unfolding nodesRise
-    nodes-fall zero l h = absurd (omega arith)
-    nodes-fall (suc left) l h = rw h
+  pub nodes-fall : (left : ℕ) {n p : ℕ} → 0 < left → NodeRises ≡ refused n p → nodesRise f sizes offsets levels j left ≡ refused n p
+  unfolding nodesRise
+  nodes-fall zero l h = absurd (omega arith)
+  nodes-fall (suc left) l h = rw h
 
-    pub nodes-on : (left : ℕ) → 0 < left → NodeRises j ≡ accepted tt → nodesRise f sizes m offsets j left ≡ nodesRise f sizes m offsets (j + 1) (left - 1)
-    unfolding nodesRise
-    nodes-on zero l h = absurd (omega arith)
-    nodes-on (suc left) l h =
-        let e : left ≡ suc left - 1 = omega arith in
-        rw (h, add-one j) (ap (nodesRise f sizes m offsets (suc j)) e)
+  pub nodes-on : (left : ℕ) → 0 < left → NodeRises ≡ accepted tt → nodesRise f sizes offsets levels j left ≡ nodesRise f sizes offsets levels (j + 1) (left - 1)
+  unfolding nodesRise
+  nodes-on zero l h = absurd (omega arith)
+  nodes-on (suc left) l h =
+      let e : left ≡ suc left - 1 = omega arith in
+      rw (h, add-one j) (ap (nodesRise f sizes offsets levels (suc j)) e)
 
-    pub nodes-done : (left : ℕ) → left ≤ 0 → nodesRise f sizes m offsets j left ≡ accepted tt
-    unfolding nodesRise
-    nodes-done zero l = refl
-    nodes-done (suc left) l = absurd (omega arith)
+  pub nodes-done : (left : ℕ) → left ≤ 0 → nodesRise f sizes offsets levels j left ≡ accepted tt
+  unfolding nodesRise
+  nodes-done zero l = refl
+  nodes-done (suc left) l = absurd (omega arith)
+
+-- ---- the row of variables
+
+-- within a list it is no matter what stands past its end
+pub getD-within : (xs : List ℕ) (k d e : ℕ) → k < length xs → getD xs k d ≡ getD xs k e
+getD-within [] k d e h = absurd (omega arith)
+getD-within (x ∷ xs) zero d e h = refl
+getD-within (x ∷ xs) (suc k) d e h = getD-within xs k d e (omega arith)
+
+pub levels-none : {f offsets levels : List ℕ} → ((k : ℕ) → getD levels k terminalLevel ≡ terminalLevel) → Levels f 0 offsets levels
+levels-none h = record { own = λ j l. absurd (omega arith); terminal = λ k l. h k }
+
+-- a row that has nothing but the terminal
+pub all-terminal : (n k : ℕ) → getD (replicate n terminalLevel) k terminalLevel ≡ terminalLevel
+all-terminal zero k = refl
+all-terminal (suc n) zero = refl
+all-terminal (suc n) (suc k) = all-terminal n k
+
+-- one node more is noted
+pub levels-more : {f offsets levels : List ℕ} {j : ℕ} (at : ℕ) {v : ℕ} → Levels f j offsets levels → j < length offsets → j + 1 < length levels → v ≡ getD f at 0
+    → Levels f (j + 1) (set offsets j at) (set levels (1 + j) v)
+levels-more {f} {offsets} {levels} {j} at {v} h o l e = record {
+  own = λ k b. elim (decLe j k) [
+    | yes g ↦
+        let same : k ≡ j = omega (arith, g, b) in
+        subst (λ (i : ℕ). getD (set levels (1 + j) v) (1 + i) terminalLevel ≡ getD f (getD (set offsets j at) i 0) 0) (sym same)
+        (getD-set-same levels (1 + j) v terminalLevel (omega arith) ∙ e ∙ ap (λ (p : ℕ). getD f p 0) (sym (getD-set-same offsets j at 0 o)))
+    | no g ↦
+        let less = lt-of-not-le g in
+        getD-set-other levels (1 + j) (1 + k) v terminalLevel (λ q. omega (arith, less, q)) ∙ h .own k less ∙ ap (λ (p : ℕ). getD f p 0) (sym (getD-set-other offsets j k at 0 (λ q. omega (arith, less, q))))
+  ];
+  terminal = λ k b. getD-set-other levels (1 + j) k v terminalLevel (λ q. omega (arith, b, q)) ∙ h .terminal k (omega (arith, b));
+}
 
 -- ---- marking the nodes
 
@@ -233,11 +244,11 @@ module _ (f sizes : List ℕ) (m from : ℕ) {nodes : List Node} {end : ℕ} (h 
       let r = each-at (readNode f sizes m) 1 m from h a (k .marks (ap nextOf h) j (omega (arith, at-length a, nodes-length f sizes m from h))) in
       (r .0, subst (λ (i : ℕ). readNode f sizes m i (getD offsets j 0) ≡ accepted (nd, r .0)) (omega arith) (r .1))
 
-  pub noted-inside : (j : ℕ) → j < m → getD offsets j 0 < length f
+  pub noted-inside : (j : ℕ) → j < m → Tests f sizes (getD offsets j 0)
   noted-inside j l =
       let none : Node = record { var = 0; edges = [] } in
       let r = node-noted (at-getD nodes j none (omega (arith, nodes-length f sizes m from h))) in
-      omega (arith, node-read f sizes m (suc j) (getD offsets j 0) (r .1) .var .fits)
+      node-tests f (node-read f sizes m (suc j) (getD offsets j 0) (r .1))
 
   var-noted : {j : ℕ} {nd : Node} → At nodes j nd → getD f (getD offsets j 0) 0 ≡ nd .var
   var-noted {j} a =
@@ -245,54 +256,61 @@ module _ (f sizes : List ℕ) (m from : ℕ) {nodes : List Node} {end : ℕ} (h 
       let v = node-read f sizes m (suc j) (getD offsets j 0) (r .1) .var in
       sym (number-one f (getD offsets j 0) (omega (arith, v .fits))) ∙ v .value
 
-  level-same : (t : ℕ) → 0 < t → level sizes nodes t ≡ levelAt f sizes m offsets t
-  level-same t l = elim (decLe t m) [
-    | yes g ↦
-        let none : Node = record { var = 0; edges = [] } in
-        let a = at-getD nodes (t - 1) none (omega (arith, nodes-length f sizes m from h)) in
-        var-at (length sizes) a ∙ sym (var-noted a) ∙ sym (level-own f sizes m offsets t g)
-    | no g ↦ var-past (length sizes) nodes (t - 1) (omega (arith, nodes-length f sizes m from h, lt-of-not-le g)) ∙ sym (level-last f sizes m offsets t (lt-of-not-le g))
-  ]
+  module _ {levels : List ℕ} (row : Levels f m offsets levels) (few : length sizes ≤ maxVariables) where
+    -- a variable is below that of a target by the row as by the nodes
+    level-same : (v t : ℕ) → v < length sizes → 0 < t → ltb v (level sizes nodes t) ≡ ltb v (getD levels t terminalLevel)
+    level-same v t b l = elim (decLe t m) [
+      | yes g ↦
+          let none : Node = record { var = 0; edges = [] } in
+          let a = at-getD nodes (t - 1) none (omega (arith, nodes-length f sizes m from h)) in
+          let number : 1 + (t - 1) ≡ t = omega (arith, l) in
+          ap (ltb v) (var-at (length sizes) a ∙ sym (var-noted a) ∙ sym (row .own (t - 1) (omega (arith, g, l))) ∙ ap (λ (k : ℕ). getD levels k terminalLevel) number)
+      | no g ↦
+          let past = lt-of-not-le g in
+          ap (ltb v) (var-past (length sizes) nodes (t - 1) (omega (arith, nodes-length f sizes m from h, past))) ∙ lt-ltb v (length sizes) b
+          ∙ sym (ap (ltb v) (row .terminal t past) ∙ lt-ltb v terminalLevel (omega (arith, b, few)))
+    ]
 
-  targets-same : (v i x d at : ℕ) {edges : List Edge} {e : ℕ} → each (λ (x : ℕ). readEdge f m i) (upFrom x d) at ≡ accepted (edges, e)
-      → checkTargets sizes nodes v edges at ≡ targetsRise f sizes m offsets v d at
-  unfolding targetsRise
-  targets-same v i x zero at g = ap (λ (es : List Edge). checkTargets sizes nodes v es at) (sym (value-of g))
-  targets-same v i x (suc d) at g =
-      let o = through (readEdge f m i at) g in
-      let p = through (each (λ (x : ℕ). readEdge f m i) (upFrom (suc x) d) (o .got .1)) (o .then) in
-      let e = edge-read f m i at (o .first) in
-      let t = o .got .0 .target in
-      let byte : t ≡ getD f at 0 = sym (e .target) ∙ number-one f at (omega (arith, e .fits, e .next)) in
-      let same : level sizes nodes t ≡ levelAt f sizes m offsets (getD f at 0) = level-same t (omega (arith, e .above)) ∙ ap (levelAt f sizes m offsets) byte in
-      let rest : checkTargets sizes nodes v (p .got .0) (at + edgeBytes) ≡ targetsRise f sizes m offsets v d (at + edgeBytes)
-      = subst (λ (q : ℕ). checkTargets sizes nodes v (p .got .0) q ≡ targetsRise f sizes m offsets v d q) (e .next) (targets-same v i (suc x) d (o .got .1) (p .first)) in
-      ap (λ (es : List Edge). checkTargets sizes nodes v es at) (sym (value-of (p .then)))
-      ∙ ap₂ (λ (b : ℕ) (r : Read (Unit {0})). _>>=_ (check (ltb v b) 6 at) (λ u. r)) same rest
+    targets-same : (v i x d at : ℕ) {edges : List Edge} {e : ℕ} → v < length sizes → each (λ (x : ℕ). readEdge f m i) (upFrom x d) at ≡ accepted (edges, e)
+        → checkTargets sizes nodes v edges at ≡ targetsRise f levels v d at
+    unfolding targetsRise
+    targets-same v i x zero at b g = ap (λ (es : List Edge). checkTargets sizes nodes v es at) (sym (value-of g))
+    targets-same v i x (suc d) at b g =
+        let o = through (readEdge f m i at) g in
+        let p = through (each (λ (x : ℕ). readEdge f m i) (upFrom (suc x) d) (o .got .1)) (o .then) in
+        let e = edge-read f m i at (o .first) in
+        let t = o .got .0 .target in
+        let byte : t ≡ getD f at 0 = sym (e .target) ∙ number-one f at (omega (arith, e .fits, e .next)) in
+        let same : ltb v (level sizes nodes t) ≡ ltb v (getD levels (getD f at 0) terminalLevel) =
+        level-same v t b (omega (arith, e .above)) ∙ ap (λ (k : ℕ). ltb v (getD levels k terminalLevel)) byte in
+        let rest : checkTargets sizes nodes v (p .got .0) (at + edgeBytes) ≡ targetsRise f levels v d (at + edgeBytes)
+        = subst (λ (q : ℕ). checkTargets sizes nodes v (p .got .0) q ≡ targetsRise f levels v d q) (e .next) (targets-same v i (suc x) d (o .got .1) b (p .first)) in
+        ap (λ (es : List Edge). checkTargets sizes nodes v es at) (sym (value-of (p .then)))
+        ∙ ap₂ (λ (b : Bool) (r : Read (Unit {0})). _>>=_ (check b 6 at) (λ u. r)) same rest
 
-  nodes-same : (count j at : ℕ) {left : List Node} {e : ℕ} → j + count ≡ m → nextOf (readFirst f sizes m j from) ≡ accepted at
-      → each (readNode f sizes m) (upFrom (suc j) count) at ≡ accepted (left, e) → checkRising sizes nodes left at ≡ nodesRise f sizes m offsets j count
-  unfolding nodesRise readEdges
-  nodes-same zero j at l q g = ap (λ (left : List Node). checkRising sizes nodes left at) (sym (value-of g))
-  nodes-same (suc count) j at l q g =
-      let o = through (readNode f sizes m (suc j) at) g in
-      let p = through (each (readNode f sizes m) (upFrom (suc (suc j)) count) (o .got .1)) (o .then) in
-      let n = node-read f sizes m (suc j) at (o .first) in
-      let nd = o .got .0 in
-      let noted : nextOf (readFirst f sizes m j from) ≡ accepted (getD offsets j 0) = k .marks (ap nextOf h) j (omega arith) in
-      let here : at ≡ getD offsets j 0 = cc in
-      let byte : nd .var ≡ getD f at 0 = sym (n .var .value) ∙ number-one f at (omega (arith, n .var .fits)) in
-      let same : checkTargets sizes nodes (nd .var) (nd .edges) (at + 1) ≡ NodeRises f sizes m offsets j
-      = targets-same (nd .var) (suc j) 0 (getD sizes (nd .var) 0) (at + 1) (n .edges) ∙ sym (node-rises f sizes m offsets j here byte refl) in
-      let rest : checkRising sizes nodes (p .got .0) (at + nodeBytes nd) ≡ nodesRise f sizes m offsets (suc j) count
-      = subst (λ (q : ℕ). checkRising sizes nodes (p .got .0) q ≡ nodesRise f sizes m offsets (suc j) count) (n .next)
-      (nodes-same count (suc j) (o .got .1) (omega arith) (first-next f sizes m from j q (ap nextOf (o .first))) (p .first)) in
-      ap (λ (left : List Node). checkRising sizes nodes left at) (sym (value-of (p .then)))
-      ∙ ap₂ (λ (a b : Read (Unit {0})). _>>=_ a (λ u. b)) same rest
+    nodes-same : (count j at : ℕ) {left : List Node} {e : ℕ} → j + count ≡ m → nextOf (readFirst f sizes m j from) ≡ accepted at
+        → each (readNode f sizes m) (upFrom (suc j) count) at ≡ accepted (left, e) → checkRising sizes nodes left at ≡ nodesRise f sizes offsets levels j count
+    unfolding nodesRise readEdges
+    nodes-same zero j at l q g = ap (λ (left : List Node). checkRising sizes nodes left at) (sym (value-of g))
+    nodes-same (suc count) j at l q g =
+        let o = through (readNode f sizes m (suc j) at) g in
+        let p = through (each (readNode f sizes m) (upFrom (suc (suc j)) count) (o .got .1)) (o .then) in
+        let n = node-read f sizes m (suc j) at (o .first) in
+        let nd = o .got .0 in
+        let noted : nextOf (readFirst f sizes m j from) ≡ accepted (getD offsets j 0) = k .marks (ap nextOf h) j (omega arith) in
+        let here : at ≡ getD offsets j 0 = cc in
+        let byte : nd .var ≡ getD f at 0 = sym (n .var .value) ∙ number-one f at (omega (arith, n .var .fits)) in
+        let same : checkTargets sizes nodes (nd .var) (nd .edges) (at + 1) ≡ NodeRises f sizes offsets levels j
+        = targets-same (nd .var) (suc j) 0 (getD sizes (nd .var) 0) (at + 1) (n .var .under) (n .edges) ∙ sym (node-rises f sizes offsets levels j here byte refl) in
+        let rest : checkRising sizes nodes (p .got .0) (at + nodeBytes nd) ≡ nodesRise f sizes offsets levels (suc j) count
+        = subst (λ (q : ℕ). checkRising sizes nodes (p .got .0) q ≡ nodesRise f sizes offsets levels (suc j) count) (n .next)
+        (nodes-same count (suc j) (o .got .1) (omega arith) (first-next f sizes m from j q (ap nextOf (o .first))) (p .first)) in
+        ap (λ (left : List Node). checkRising sizes nodes left at) (sym (value-of (p .then)))
+        ∙ ap₂ (λ (a b : Read (Unit {0})). _>>=_ a (λ u. b)) same rest
 
-  pub rising-same : checkRising sizes nodes nodes from ≡ nodesRise f sizes m offsets 0 m
-  unfolding readNodes readFirst
-  rising-same = nodes-same m 0 from (omega arith) refl h
+    pub rising-same : checkRising sizes nodes nodes from ≡ nodesRise f sizes offsets levels 0 m
+    unfolding readNodes readFirst
+    rising-same = nodes-same m 0 from (omega arith) refl h
 
 -- ---- the rest of a list is lent from index `used` on, and comes back as `last`
 
@@ -364,16 +382,20 @@ module _ (f sizes : List ℕ) (left at : ℕ) where
       nodes-are = let c = made (λ (p : List Node × ℕ). p .1) (readNodes f sizes m (at + 1)) g in c .answer ∙ ap (λ (e : ℕ). accepted (nodes, e)) (c .value)
 
       module _ {offsets : List ℕ} (k : Marked f sizes m (at + 1) offsets) where
-        pub all-inside : (j : ℕ) → j < m → getD offsets j 0 < length f
+        pub all-inside : (j : ℕ) → j < m → Tests f sizes (getD offsets j 0)
         all-inside = noted-inside f sizes m (at + 1) nodes-are k
 
-        pub drawn-falls : {n p : ℕ} → nodesRise f sizes m offsets 0 m ≡ refused n p → diagramAt f sizes left at ≡ refused n p
-        unfolding diagramAt readDiagram
-        drawn-falls e = rw (count-is, nodes-are, rising-same f sizes m (at + 1) nodes-are k, e)
+        module _ {levels : List ℕ} (row : Levels f m offsets levels) (few : length sizes ≤ maxVariables) where
+          rises : checkRising sizes nodes nodes (at + 1) ≡ nodesRise f sizes offsets levels 0 m
+          rises = rising-same f sizes m (at + 1) nodes-are k row few
 
-        pub drawn-good : nodesRise f sizes m offsets 0 m ≡ accepted tt → diagramAt f sizes left at ≡ accepted (end, m)
-        unfolding diagramAt readDiagram
-        drawn-good e = rw (count-is, nodes-are, rising-same f sizes m (at + 1) nodes-are k, e) (ap (λ (n : ℕ). accepted (end, n)) (sym (nodes-length f sizes m (at + 1) nodes-are)))
+          pub drawn-falls : {n p : ℕ} → nodesRise f sizes offsets levels 0 m ≡ refused n p → diagramAt f sizes left at ≡ refused n p
+          unfolding diagramAt readDiagram
+          drawn-falls e = rw (count-is, nodes-are, rises, e)
+
+          pub drawn-good : nodesRise f sizes offsets levels 0 m ≡ accepted tt → diagramAt f sizes left at ≡ accepted (end, m)
+          unfolding diagramAt readDiagram
+          drawn-good e = rw (count-is, nodes-are, rises, e) (ap (λ (n : ℕ). accepted (end, n)) (sym (nodes-length f sizes m (at + 1) nodes-are)))
 
     -- the nodes of an accepted diagram lie where they are noted
     pub placed : {used : ℕ} {before last after : List ℕ} → Back used before last after → Marked f sizes m (at + 1) last → Placed f sizes left at used before after
@@ -392,3 +414,10 @@ module _ (f sizes : List ℕ) (left at : ℕ) where
 pub marked-part : (f sizes : List ℕ) (m from used : ℕ) (before : List ℕ) {last : List ℕ} → used ≤ length before → Marked f sizes m from last
     → let after = putMid used (length before - used) before last in Marked f sizes m from (take (length after - used) (drop used after))
 marked-part f sizes m from used before {last} l k = subst (Marked f sizes m from) (sym (back used before last l .part)) k
+
+pub length-part : (used : ℕ) (before last : List ℕ) → used ≤ length before → let after = putMid used (length before - used) before last in length (take (length after - used) (drop used after)) ≡ length last
+length-part used before last l = ap length (back used before last l .part)
+
+pub levels-part : (f : List ℕ) (m used : ℕ) (before : List ℕ) {last levels : List ℕ} → used ≤ length before → Levels f m last levels
+    → let after = putMid used (length before - used) before last in Levels f m (take (length after - used) (drop used after)) levels
+levels-part f m used before {last} {levels} l r = subst (λ (offsets : List ℕ). Levels f m offsets levels) (sym (back used before last l .part)) r

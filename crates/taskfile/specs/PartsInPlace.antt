@@ -1,5 +1,5 @@
 -- The parts of a task in place: what code works from that goes over the bytes of an accepted file, without reading it into values.
-use Prim.Native.Nat.{ℕ, zero, suc, _+_, _^_, _≤_, _<_}
+use Prim.Native.Nat.{ℕ, zero, suc, _+_, _*_, _^_, _≤_, _<_}
 use mathlib.Core.List.{List, [], _∷_}
 use lib.ListN.{length, getD, drop}
 use Rattle.facts.specs.Partial.{partialBytes, partialAt, pastPartial}
@@ -48,9 +48,9 @@ module _ (f : List ℕ) where
     pub fits : at + partialBytes (partialAt f at) ≤ length f
     pub below : partialAt f at .map < 2 ^ n
 
-  -- the node at an offset begins within the file and tests one of the variables
+  -- the node at an offset ends within the file, with an edge for each value, and tests one of the variables
   pub record Tests (sizes : List ℕ) (at : ℕ) : Type 0 where
-    pub fits : at < length f
+    pub fits : at + (1 + edgeBytes * getD sizes (getD f at 0) 0) ≤ length f
     pub below : getD f at 0 < length sizes
 
   -- the action at an offset, whose own nodes begin at these offsets, is one of an accepted file

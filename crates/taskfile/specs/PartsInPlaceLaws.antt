@@ -20,8 +20,8 @@ use Rattle.taskfile.specs.TaskFile.{edgeBytes, readTask}
 use Rattle.taskfile.specs.InPlace.{Lies, Located}
 use Rattle.taskfile.specs.Index.{Ready}
 use Rattle.taskfile.specs.WalkInPlace.{incomingPlace, nodeCount}
-use Rattle.taskfile.specs.PartsInPlace.{edgeIn, edgesIn, nodeIn, nodesIn, actionIn, actionsIn, Stands, Tests, Stood}
-use Rattle.taskfile.specs.DiagramReadLaws.{Edge-read, Node-read, node-read, node-edge}
+use Rattle.taskfile.specs.PartsInPlace.{edgeIn, edgesIn, nodeIn, nodesIn, actionIn, actionsIn, Stands, Stood}
+use Rattle.taskfile.specs.DiagramReadLaws.{Edge-read, Node-read, node-read, node-edge, node-tests}
 use Rattle.taskfile.specs.WalkInPlaceLaws.{pre-lies, eff-lies, incoming-lies, count-is}
 use Rattle.taskfile.specs.TaskReadLaws.{task-read, task-limits}
 use Rattle.taskfile.specs.MoveInPlaceLaws.{located-actions}
@@ -91,10 +91,6 @@ module _ (f : List ℕ) {sizes : List ℕ} {m i at end : ℕ} {nd : Node} (r : N
   var-here : getD f at 0 ≡ nd .var
   var-here = sym (number-one f at (omega (arith, r .var .fits))) ∙ r .var .value
 
-  -- It is one of the variables.
-  tests : Tests f sizes at
-  tests = record { fits = omega (arith, r .var .fits); below = rw var-here (r .var .under) }
-
   -- A node.
   node-here : nodeIn f sizes at ≡ nd
   node-here =
@@ -128,7 +124,7 @@ module _ (f : List ℕ) {sizes : List ℕ} {x : Action} {at first : ℕ} {all : 
     pre = stands (pre-lies f l);
     eff = stands (eff-lies f l);
     few = omega (arith, count-is f l);
-    nodes = λ j h. tests f (node-at (at-some (x .nodes) j (omega (arith, count-is f l)) .1));
+    nodes = λ j h. node-tests f (node-at (at-some (x .nodes) j (omega (arith, count-is f l)) .1));
   }
 
 -- ---- the task of an accepted file with this index

@@ -6,17 +6,18 @@ use facts::Field;
 use facts::Past;
 use facts::Refusal;
 use facts::number::byte_at;
-use facts::number::offset_at;
 ghost use mathlib.Core.Path.{_≡_};
 ghost use Prim.Native.Nat.{ℕ, suc, _+_, _*_, _-_, _≤_, _<_};
 ghost use mathlib.Core.Bool.{_&&_};
 ghost use lib.Dec.{leb, ltb};
 ghost use lib.ListN.{length, getD};
+ghost use Rattle.facts.specs.Read.{accepted};
 ghost use Rattle.facts.specs.Answers.{pastAnswer, checkedAnswer};
 ghost use Rattle.facts.specs.Fields.{nextOf};
 ghost use Rattle.taskfile.specs.TaskFile.{edgeBytes, readTarget, readEdge, readEdges, readNode, readNodes};
 ghost use Rattle.taskfile.specs.Answers.{drawnAnswer};
-ghost use Rattle.taskfile.specs.InPlace.{targetsRise, nodesRise, levelBy, Levels, Marked, diagramAt, Placed};
+ghost use Rattle.taskfile.specs.InPlace.{targetsRise, nodesRise, Levels, Marked, diagramAt, Placed};
+ghost use Rattle.taskfile.specs.PartsInPlace.{Tests};
 
 // The bytes of a weight.
 const WEIGHT_BYTES: usize = 2;
@@ -24,8 +25,11 @@ const WEIGHT_BYTES: usize = 2;
 // The bytes of an edge, target and weight.
 const EDGE_BYTES: usize = 3;
 
-// A row by number has an entry for each node, and one at 0.
-const LEVELS: usize = Task::MAX_NODES + 1;
+// The variable that stands for the terminal, above all others.
+const TERMINAL: u8 = 255;
+
+// A row of variables by number has an entry for each node, one at 0 and one for the terminal.
+const LEVELS: usize = Task::MAX_NODES + 2;
 
 // Past a diagram, which may have as many nodes as are not used yet; its nodes' offsets are noted after those that are used.
 pub fn diagram_end(
@@ -35,16 +39,17 @@ pub fn diagram_end(
     used: usize,
     offsets: &mut [usize],
 ) -> Drawn
-    requires { ⌜ (used ≤ 64) × (64 ≤ length (now offsets)) ⌝ }
+    requires { ⌜ (used ≤ 64) × (64 ≤ length (now offsets)) × (length (now sizes) ≤ 24) ⌝ }
     ensures { λ r. ⌜ (drawnAnswer r ≡ diagramAt (now (file .entry)) (now (sizes .entry)) (64 - used) at) × Placed (now (file .entry)) (now (sizes .entry)) (64 - used) at used (now (offsets .entry)) (now (offsets .exit)) ⌝ }
 {
     match facts::head::read_count(file, at, 0, (Task::MAX_NODES - used) as u64) {
         Field::Refused(why) => Drawn::Refused(why),
         Field::Value(count) => {
             let m = count as usize;
-            match nodes_end(file, at + 1, sizes, m, &mut offsets[used..]) {
+            let mut levels = [TERMINAL; LEVELS];
+            match nodes_end(file, at + 1, sizes, m, &mut offsets[used..], &mut levels) {
                 Past::Refused(why) => Drawn::Refused(why),
-                Past::Next(end) => match nodes_rise(file, sizes, m, &offsets[used..]) {
+                Past::Next(end) => match nodes_rise(file, sizes, m, &offsets[used..], &levels) {
                     Checked::Refused(why) => Drawn::Refused(why),
                     Checked::Accepted => Drawn::Next(end, m),
                 },
@@ -53,15 +58,24 @@ pub fn diagram_end(
     }
 }
 
-// Past the m nodes of a diagram, noting where each starts.
-fn nodes_end(file: &[u8], from: usize, sizes: &[u8], m: usize, offsets: &mut [usize]) -> Past
-    requires { ⌜ m ≤ length (now offsets) ⌝ }
+// Past the m nodes of a diagram, noting where each starts, and its variable by its number.
+fn nodes_end(
+    file: &[u8],
+    from: usize,
+    sizes: &[u8],
+    m: usize,
+    offsets: &mut [usize],
+    levels: &mut [u8],
+) -> Past
+    requires { ⌜ (m ≤ length (now offsets)) × (m < length (now levels)) × ((k : ℕ) → getD (now levels) k 255 ≡ 255) ⌝ }
     ensures { λ r. ⌜ (pastAnswer r ≡ nextOf (readNodes (now (file .entry)) (now (sizes .entry)) m from)) × Marked (now (file .entry)) (now (sizes .entry)) m from (now (offsets .exit)) ⌝ }
+    ensures { λ r. ⌜ ((end : ℕ) → pastAnswer r ≡ accepted end → Levels (now (file .entry)) m (now (offsets .exit)) (now (levels .exit))) ⌝ }
 {
     let mut at = from;
     let mut j: usize = 0;
     while j < m {
         offsets[j] = at;
+        levels[1 + j] = byte_at(file, at);
         match node_end(file, at, sizes, m, 1 + j) {
             Past::Next(next) => {
                 at = next;
@@ -174,47 +188,16 @@ fn ahead(target: usize, m: usize, i: usize) -> bool
     target - 1 <= m
 }
 
-// Whether the variable rises along each edge of the m nodes at these offsets.
-fn nodes_rise(file: &[u8], sizes: &[u8], m: usize, offsets: &[usize]) -> Checked
-    requires { ⌜ ((j : ℕ) → j < m → getD (now offsets) j 0 < length (now file)) × (m ≤ 64) ⌝ }
-    ensures { λ r. ⌜ checkedAnswer r ≡ nodesRise (now (file .entry)) (now (sizes .entry)) m (now (offsets .entry)) 0 m ⌝ }
-{
-    let mut levels = [0; LEVELS];
-    note_levels(file, m, offsets, &mut levels);
-    edges_rise(file, sizes, m, offsets, &levels)
-}
-
-// Notes the variable of each of the m nodes at these offsets by the node's number; at 0 stands the first one's.
-fn note_levels(file: &[u8], m: usize, offsets: &[usize], levels: &mut [u8])
-    requires { ⌜ m < length (now levels) ⌝ }
-    ensures { λ r. ⌜ Levels (now (file .entry)) m (now (offsets .entry)) (now (levels .exit)) ⌝ }
-{
-    let mut k: usize = 0;
-    while k <= m {
-        levels[k] = byte_at(file, offset_at(offsets, previous(k)));
-        k += 1;
-    }
-}
-
-// Whether the variable rises along each edge of the m nodes at these offsets, by the variables noted for them.
-fn edges_rise(file: &[u8], sizes: &[u8], m: usize, offsets: &[usize], levels: &[u8]) -> Checked
-    requires { ⌜ ((j : ℕ) → j < m → getD (now offsets) j 0 < length (now file)) × Levels (now file) m (now offsets) (now levels) ⌝ }
-    ensures { λ r. ⌜ checkedAnswer r ≡ nodesRise (now (file .entry)) (now (sizes .entry)) m (now (offsets .entry)) 0 m ⌝ }
+// Whether the variable rises along each edge of the m nodes at these offsets, by the row of their variables.
+fn nodes_rise(file: &[u8], sizes: &[u8], m: usize, offsets: &[usize], levels: &[u8]) -> Checked
+    requires { ⌜ (m ≤ length (now offsets)) × ((j : ℕ) → j < m → Tests (now file) (now sizes) (getD (now offsets) j 0)) ⌝ }
+    ensures { λ r. ⌜ checkedAnswer r ≡ nodesRise (now (file .entry)) (now (sizes .entry)) (now (offsets .entry)) (now (levels .entry)) 0 m ⌝ }
 {
     let mut j: usize = 0;
     while j < m {
-        let at = offset_at(offsets, j);
-        let variable = byte_at(file, at);
-        match targets_rise(
-            file,
-            sizes,
-            m,
-            offsets,
-            levels,
-            variable,
-            byte_at(sizes, variable as usize),
-            at + 1,
-        ) {
+        let at = offsets[j];
+        let variable = file[at];
+        match targets_rise(file, levels, variable, sizes[variable as usize], at + 1) {
             Checked::Accepted => {}
             Checked::Refused(why) => {
                 return Checked::Refused(why);
@@ -226,23 +209,14 @@ fn edges_rise(file: &[u8], sizes: &[u8], m: usize, offsets: &[usize], levels: &[
 }
 
 // Whether each target of a node that tests v, the first of which lies at `from`, has a variable above v.
-fn targets_rise(
-    file: &[u8],
-    sizes: &[u8],
-    m: usize,
-    offsets: &[usize],
-    levels: &[u8],
-    v: u8,
-    count: u8,
-    from: usize,
-) -> Checked
-    requires { ⌜ (from ≤ length (now file)) × Levels (now file) m (now offsets) (now levels) ⌝ }
-    ensures { λ r. ⌜ checkedAnswer r ≡ targetsRise (now (file .entry)) (now (sizes .entry)) m (now (offsets .entry)) v count from ⌝ }
+fn targets_rise(file: &[u8], levels: &[u8], v: u8, count: u8, from: usize) -> Checked
+    requires { ⌜ from + edgeBytes * count ≤ length (now file) ⌝ }
+    ensures { λ r. ⌜ checkedAnswer r ≡ targetsRise (now (file .entry)) (now (levels .entry)) v count from ⌝ }
 {
     let mut at = from;
     let mut left = count;
     while 0 < left {
-        if level_of(sizes, m, levels, byte_at(file, at) as usize) <= v as usize {
+        if level_of(levels, file[at]) <= v {
             return Checked::Refused(Refusal::Diagram(at));
         }
         at += EDGE_BYTES;
@@ -251,23 +225,12 @@ fn targets_rise(
     Checked::Accepted
 }
 
-// The variable of node k, of m, and for the terminal the number of variables.
-fn level_of(sizes: &[u8], m: usize, levels: &[u8], k: usize) -> usize
-    ensures { λ r. ⌜ r ≡ levelBy (length (now (sizes .entry))) m (now (levels .entry)) k ⌝ }
+// The variable of node k, and past the row that of the terminal.
+fn level_of(levels: &[u8], k: u8) -> u8
+    ensures { λ r. ⌜ r ≡ getD (now (levels .entry)) k 255 ⌝ }
 {
-    let own = byte_at(levels, k) as usize; // looked up in any case, so that nothing waits for the test
-    if m < k {
-        return sizes.len();
+    if levels.len() <= k as usize {
+        return TERMINAL;
     }
-    own
-}
-
-// The number before k, and 0 for 0.
-fn previous(k: usize) -> usize
-    ensures { λ r. ⌜ r ≡ k - 1 ⌝ }
-{
-    if k == 0 {
-        return 0;
-    }
-    k - 1
+    levels[k as usize]
 }

@@ -83,7 +83,7 @@ fn actions_end(
     first_node: &mut [usize],
     node_at: &mut [usize],
 ) -> Past
-    requires { ⌜ (count ≤ length (now «action_at»)) × (count ≤ length (now «first_node»)) × (64 ≤ length (now «node_at»)) ⌝ }
+    requires { ⌜ (count ≤ length (now «action_at»)) × (count ≤ length (now «first_node»)) × (64 ≤ length (now «node_at»)) × (length (now sizes) ≤ 24) ⌝ }
     ensures { λ r. ⌜ (pastAnswer r ≡ nextOf (readActions (now (file .entry)) (now (sizes .entry)) count 64 from)) × Listed (now (file .entry)) (now (sizes .entry)) count from (now («action_at» .exit)) (now («first_node» .exit)) (now («node_at» .exit)) ⌝ }
 {
     let mut at = from;
@@ -108,7 +108,7 @@ fn actions_end(
 
 // Past an action: its front, and its diagram, whose nodes are noted from index `used` on.
 fn action_end(file: &[u8], at: usize, sizes: &[u8], used: usize, node_at: &mut [usize]) -> Drawn
-    requires { ⌜ (used ≤ 64) × (64 ≤ length (now «node_at»)) ⌝ }
+    requires { ⌜ (used ≤ 64) × (64 ≤ length (now «node_at»)) × (length (now sizes) ≤ 24) ⌝ }
     ensures { λ r. ⌜ (drawnAnswer r ≡ actionAt (now (file .entry)) (now (sizes .entry)) (64 - used) at) × Action-placed (now (file .entry)) (now (sizes .entry)) (64 - used) at used (now («node_at» .entry)) (now («node_at» .exit)) ⌝ }
 {
     match facts::partial::operator_end(file, at, sizes) {

@@ -1,9 +1,9 @@
 -- `compile::action::put_node` meets its contract: what is written and what is left are together all steps of the node. Assumes nothing.
 use Prim.Native.Nat.{ℕ, _+_, _*_, _-_, _≤_, _<_}
-use mathlib.Core.Path.{_≡_, subst}
+use mathlib.Core.Path.{_≡_, ap, subst, _∙_}
 use mathlib.Core.List.{List}
 use native.Mathlib.Omega.{arith}
-use lib.ListN.{length}
+use lib.ListN.{length, getD}
 use denote.Ref.{now}
 use Rattle.facts.specs.Fields.{writeEach}
 use Rattle.probe.specs.Probe.{Step}
@@ -34,6 +34,12 @@ fits c =
     let a = c .before .before .before .before .before .args in
     subst (λ (bytes : List ℕ). length bytes ≤ length (now (a .out))) (node-is (now (a .file)) (now (a .sizes)) (a .node) (length (now (a .sizes))) (a .a) (a .i) (c .before .byte-at .ensures) (c .byte-at2 .ensures)) (c .before .before .before .before .before .pre .1)
 
+-- the edges end within the file
+ends : (c : tie.After-byte-at2 Inv-loop μ-loop) → c .before .before .before .before .before .args .node + (1 + 3 * c .byte-at2 .result) ≤ length (now (c .before .before .before .before .before .args .file))
+ends c =
+    let s = c .before .before .before .before .before in
+    omega (arith, s .pre .0 .0 .fits, c .byte-at2 .ensures ∙ ap (λ (v : ℕ). getD (now (s .args .sizes)) v 0) (c .before .byte-at .ensures))
+
 -- what is left from value d on
 abbrev left : tie.After-byte-at2 Inv-loop μ-loop → ℕ → ℕ → List ℕ
 left c d edge = let x = c .before .before .before .before .before .args in stepsFrom (now (x .file)) (length (now (x .sizes))) (x .a) (x .i) (c .before .byte-at .result) (c .byte-at2 .result) d edge
@@ -50,7 +56,7 @@ put-edge-requires c κs =
     let s = c .before .before .before .before .before .before .before .before in
     let l = c .before .before .loop in
     let room = going-room (l .inv .2) (fits (c .before .before .before)) (cut (c .before .before .before) (l .d) (l .edge) (c .before .loop-test .taken)) in (
-      (omega (arith, s .pre .0 .0 .below, c .before .before .before .before .byte-at .ensures, s .pre .0 .1), omega (arith, s .pre .0 .1, s .pre .0 .2), omega (arith, l .inv .0, l .inv .1, s .pre .0 .0 .fits, c .before .before .before .byte-at2 .ok)),
+      (omega (arith, s .pre .0 .0 .below, c .before .before .before .before .byte-at .ensures, s .pre .0 .1), omega (arith, s .pre .0 .1, s .pre .0 .2), omega (arith, c .before .loop-test .taken, l .inv .1, ends (c .before .before .before))),
       omega (arith, room, step-written (step (c .before .before .before) (l .d) (l .edge))),
     )
 

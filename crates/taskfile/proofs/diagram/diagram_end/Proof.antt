@@ -1,6 +1,6 @@
 -- `taskfile::diagram::diagram_end` meets its contract: count, nodes and the variables along the edges, each refusal where it stands; the offsets
 -- that were lent come back noted. Assumes nothing.
-use Prim.Native.Nat.{_+_, _-_}
+use Prim.Native.Nat.{_+_, _-_, _≤_}
 use mathlib.Core.Path.{_≡_, refl, sym, ap, _∙_}
 use denote.Ref.{now}
 use lib.ListN.{length}
@@ -8,7 +8,7 @@ use Rattle.facts.specs.Read.{accepted}
 use Rattle.facts.specs.Answers.{fieldAnswer, pastAnswer, checkedAnswer}
 use Rattle.facts.specs.Fields.{nextOf, valueOf, readCount}
 use Rattle.taskfile.specs.TaskFile.{readNodes}
-use Rattle.taskfile.specs.InPlaceLaws.{back, marked-part, drawn-no-count, drawn-no-nodes, drawn-falls, drawn-good, count-fits, count-most, all-inside, placed-none, placed}
+use Rattle.taskfile.specs.InPlaceLaws.{all-terminal, back, marked-part, length-part, levels-part, drawn-no-count, drawn-no-nodes, drawn-falls, drawn-good, count-fits, count-most, all-inside, placed-none, placed}
 use borrow.Rule.Slice.PartMut.{mid-len}
 use borrow.Author.Needs.{needs}
 use native.Mathlib.Omega.{arith}
@@ -18,23 +18,25 @@ use Rattle.taskfile.proofs.diagram.diagram_end.Tie as tie
 count-is : (c : tie.After-count) → let a = c .before .before .before .before .before .before .args in valueOf (readCount (now (a .file)) 0 (64 - a .used) (a .at)) ≡ accepted (c .count .given .0 .0)
 count-is c = sym (c .before .before .read-count .ensures) ∙ ap fieldAnswer (c .count .given .1)
 
-nodes-are : (c : tie.After-end) → let a = c .before .before .before .before .before .before .before .before .before .before .before .before .before .args in nextOf (readNodes (now (a .file)) (now (a .sizes)) (c .before .before .before .before .before .before .before .count .given .0 .0) (a .at + 1)) ≡ accepted (c .end .given .0 .0)
-nodes-are c = sym (c .before .before .before .before .nodes-end .ensures .0) ∙ ap pastAnswer (c .end .given .1)
+nodes-are : (c : tie.After-end) → let a = c .before .before .before .before .before .before .before .before .before .before .before .before .before .before .before .args in nextOf (readNodes (now (a .file)) (now (a .sizes)) (c .before .before .before .before .before .before .before .before .before .count .given .0 .0) (a .at + 1)) ≡ accepted (c .end .given .0 .0)
+nodes-are c = sym (c .before .before .before .before .before .nodes-end .ensures .0 .0) ∙ ap pastAnswer (c .end .given .1)
 
 add-nodes-end : tie.Need-add-nodes-end
 add-nodes-end c = omega (arith, count-fits _ (now (c .before .before .before .before .before .before .before .args .sizes)) _ _ (count-is (c .before)))
 
 nodes-end-requires : tie.Need-nodes-end-requires
 nodes-end-requires c κs =
-    let s = c .before .before .before .before .before .before .before .before in
-    omega (arith, s .pre .0, s .pre .1, count-most _ (now (s .args .sizes)) _ _ (count-is (c .before .before)), mid-len (s .args .used) (length (now (s .args .offsets))) (now (s .args .offsets)) (omega arith))
+    let s = c .before .before .before .before .before .before .before .before .before in
+    let most = count-most _ (now (s .args .sizes)) _ _ (count-is (c .before .before .before)) in
+    (omega (arith, s .pre .0, s .pre .1, most, mid-len (s .args .used) (length (now (s .args .offsets))) (now (s .args .offsets)) (omega arith)), omega (arith, most), all-terminal 66)
 
 nodes-rise-requires : tie.Need-nodes-rise-requires
 nodes-rise-requires c κs =
-    let s = c .before .before .before .before .before .before .before .before .before .before .before .before .before .before .before .before in
-    let k = marked-part _ _ _ _ (s .args .used) (now (s .args .offsets)) (omega (arith, s .pre)) (c .before .before .before .before .before .before .before .nodes-end .ensures .1) in
-    let count = count-is (c .before .before .before .before .before .before .before .before .before .before) in
-    (all-inside _ _ _ _ count (nodes-are (c .before .before .before)) k, omega (arith, count-most _ (now (s .args .sizes)) _ _ count))
+    let s = c .before .before .before .before .before .before .before .before .before .before .before .before .before .before .before .before .before .before .before in
+    let inside : s .args .used ≤ length (now (s .args .offsets)) = omega (arith, s .pre) in
+    let k = marked-part _ _ _ _ (s .args .used) (now (s .args .offsets)) inside (c .before .before .before .before .before .before .before .before .before .nodes-end .ensures .0 .1) in
+    let count = count-is (c .before .before .before .before .before .before .before .before .before .before .before .before .before) in
+    (omega (arith, s .pre .0, s .pre .1, count-most _ (now (s .args .sizes)) _ _ count, length-part (s .args .used) (now (s .args .offsets)) (c .before .before .before .before .before .before .before .before .before .nodes-end .last .1 .1 .1 .1 .0) inside, c .before .before .before .before .before .before .before .before .offsets .given, mid-len (s .args .used) (length (now (s .args .offsets))) (now (s .args .offsets)) (omega arith)), all-inside _ _ _ _ count (nodes-are (c .before .before .before .before)) k)
 
 returns : tie.Need-returns
 returns c =
@@ -43,28 +45,30 @@ returns c =
 
 returns-2 : tie.Need-returns-2
 returns-2 c =
-    let s = c .before .before .before .before .before .before .before .before .before .before .before .before .before .before in
-    let count = count-is (c .before .before .before .before .before .before .before .before) in (
-      sym (drawn-no-nodes _ _ _ _ count (sym (c .before .before .before .before .before .nodes-end .ensures .0) ∙ ap pastAnswer (c .before .why2 .given .1))),
-      placed _ _ _ _ count (back (s .args .used) (now (s .args .offsets)) _ (omega (arith, s .pre))) (c .before .before .before .before .before .nodes-end .ensures .1),
+    let s = c .before .before .before .before .before .before .before .before .before .before .before .before .before .before .before .before in
+    let count = count-is (c .before .before .before .before .before .before .before .before .before .before) in (
+      sym (drawn-no-nodes _ _ _ _ count (sym (c .before .before .before .before .before .before .nodes-end .ensures .0 .0) ∙ ap pastAnswer (c .before .why2 .given .1))),
+      placed _ _ _ _ count (back (s .args .used) (now (s .args .offsets)) _ (omega (arith, s .pre))) (c .before .before .before .before .before .before .nodes-end .ensures .0 .1),
     )
 
 returns-3 : tie.Need-returns-3
 returns-3 c =
-    let s = c .before .before .before .before .before .before .before .before .before .before .before .before .before .before .before .before .before .before .before .before in
-    let count = count-is (c .before .before .before .before .before .before .before .before .before .before .before .before .before .before) in
-    let k = marked-part _ _ _ _ (s .args .used) (now (s .args .offsets)) (omega (arith, s .pre)) (c .before .before .before .before .before .before .before .before .before .before .before .nodes-end .ensures .1) in (
-      sym (drawn-falls _ _ _ _ count (nodes-are (c .before .before .before .before .before .before .before)) k (sym (c .before .before .before .nodes-rise .ensures) ∙ ap checkedAnswer (c .before .why3 .given .1))),
-      placed _ _ _ _ count (back (s .args .used) (now (s .args .offsets)) _ (omega (arith, s .pre))) (c .before .before .before .before .before .before .before .before .before .before .before .nodes-end .ensures .1),
+    let s = c .before .before .before .before .before .before .before .before .before .before .before .before .before .before .before .before .before .before .before .before .before .before .before in
+    let count = count-is (c .before .before .before .before .before .before .before .before .before .before .before .before .before .before .before .before .before) in
+    let k = marked-part _ _ _ _ (s .args .used) (now (s .args .offsets)) (omega (arith, s .pre)) (c .before .before .before .before .before .before .before .before .before .before .before .before .before .nodes-end .ensures .0 .1) in
+    let row = levels-part _ _ (s .args .used) (now (s .args .offsets)) (omega (arith, s .pre)) (c .before .before .before .before .before .before .before .before .before .before .before .before .before .nodes-end .ensures .1 _ (ap pastAnswer (c .before .before .before .before .before .before .before .before .end .given .1))) in (
+      sym (drawn-falls _ _ _ _ count (nodes-are (c .before .before .before .before .before .before .before .before)) k row (s .pre .2) (sym (c .before .before .before .nodes-rise .ensures) ∙ ap checkedAnswer (c .before .why3 .given .1))),
+      placed _ _ _ _ count (back (s .args .used) (now (s .args .offsets)) _ (omega (arith, s .pre))) (c .before .before .before .before .before .before .before .before .before .before .before .before .before .nodes-end .ensures .0 .1),
     )
 
 returns-4 : tie.Need-returns-4
 returns-4 c =
-    let s = c .before .before .before .before .before .before .before .before .before .before .before .before .before .before .before .before .before .before .before in
-    let count = count-is (c .before .before .before .before .before .before .before .before .before .before .before .before .before) in
-    let k = marked-part _ _ _ _ (s .args .used) (now (s .args .offsets)) (omega (arith, s .pre)) (c .before .before .before .before .before .before .before .before .before .before .nodes-end .ensures .1) in (
-      sym (drawn-good _ _ _ _ count (nodes-are (c .before .before .before .before .before .before)) k (sym (c .before .before .nodes-rise .ensures) ∙ ap checkedAnswer (c .enum-told .given .1))),
-      placed _ _ _ _ count (back (s .args .used) (now (s .args .offsets)) _ (omega (arith, s .pre))) (c .before .before .before .before .before .before .before .before .before .before .nodes-end .ensures .1),
+    let s = c .before .before .before .before .before .before .before .before .before .before .before .before .before .before .before .before .before .before .before .before .before .before in
+    let count = count-is (c .before .before .before .before .before .before .before .before .before .before .before .before .before .before .before .before) in
+    let k = marked-part _ _ _ _ (s .args .used) (now (s .args .offsets)) (omega (arith, s .pre)) (c .before .before .before .before .before .before .before .before .before .before .before .before .nodes-end .ensures .0 .1) in
+    let row = levels-part _ _ (s .args .used) (now (s .args .offsets)) (omega (arith, s .pre)) (c .before .before .before .before .before .before .before .before .before .before .before .before .nodes-end .ensures .1 _ (ap pastAnswer (c .before .before .before .before .before .before .before .end .given .1))) in (
+      sym (drawn-good _ _ _ _ count (nodes-are (c .before .before .before .before .before .before .before)) k row (s .pre .2) (sym (c .before .before .nodes-rise .ensures) ∙ ap checkedAnswer (c .enum-told .given .1))),
+      placed _ _ _ _ count (back (s .args .used) (now (s .args .offsets)) _ (omega (arith, s .pre))) (c .before .before .before .before .before .before .before .before .before .before .before .before .nodes-end .ensures .0 .1),
     )
 
 pub diagram-end-spec : {M : Type 1} → statement M
@@ -80,7 +84,9 @@ diagram-end-spec =
     (λ c. search needs)
     (λ c. search needs)
     (λ c. search needs)
+    (λ c. search needs)
     nodes-end-requires
+    (λ c. search needs)
     (λ c. search needs)
     (λ c. search needs)
     (λ c. search needs)

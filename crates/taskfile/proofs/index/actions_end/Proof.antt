@@ -1,8 +1,7 @@
 -- `taskfile::index::actions_end` meets its contract: the actions up to here are read and noted; one more, or the refusal that is the whole's.
 -- Assumes nothing.
-use Prim.Native.Nat.{ℕ, _+_, _-_, _≤_, _<_}
-use mathlib.Core.Path.{_≡_, refl, sym, ap, _∙_, subst, subst₂}
-use mathlib.Core.List.{List}
+use Prim.Native.Nat.{_+_, _-_, _≤_}
+use mathlib.Core.Path.{_≡_, refl, sym, ap, _∙_}
 use denote.Ref.{now}
 use lib.ListN.{length, set, length-set}
 use Rattle.taskfile.specs.Answers.{drawnAnswer}
@@ -32,7 +31,7 @@ slice-write-first-node : tie.Need-slice-write-first-node Inv-loop μ-loop
 slice-write-first-node c = omega (arith, c .before .before .before .before .before .before .before .pre .1)
 
 action-end-requires : tie.Need-action-end-requires Inv-loop μ-loop
-action-end-requires c κs = (c .before .before .loop .inv .4 .within, omega (arith, c .before .before .before .before .before .before .before .before .pre .2))
+action-end-requires c κs = (c .before .before .loop .inv .4 .within, omega (arith, c .before .before .before .before .before .before .before .before .pre .2), c .before .before .before .before .before .before .before .before .pre .3)
 
 same-length : tie.Need-same-length Inv-loop μ-loop
 same-length c = let l = c .before .before .before .before .before .before .before .before .loop in length-set (l .action-at) (l .a) (l .at) ∙ l .inv .1

@@ -2,7 +2,8 @@
 use Prim.Native.Nat.{_+_, _-_}
 use mathlib.Core.Path.{_≡_, sym, ap, _∙_}
 use denote.Ref.{now}
-use lib.ListN.{take, drop}
+use lib.ListN.{take, drop, length-drop}
+use lib.Seq.{length-take-le}
 use Rattle.facts.specs.Read.{accepted}
 use Rattle.facts.specs.Answers.{fieldAnswer, pastAnswer}
 use Rattle.facts.specs.Fields.{nextOf, valueOf, readCount}
@@ -37,7 +38,9 @@ actions-end-requires : tie.Need-actions-end-requires
 actions-end-requires c κs =
     let s = c .before .before .before .before .before .before .before .before .before .before .before .before in
     let few = count-fits _ (s .pre .0) (count-is (c .before .before .before .before .before)) .0 in
-    (omega (arith, s .pre .1), omega (arith, s .pre .2), s .pre .3)
+    let head = headed-fits _ 24 8 (s .pre .0) in
+    let sizes = length-take-le (1 + s .args .variables - 1) (drop 1 (now (s .args .file))) (simp length-drop (omega (arith, head .1, head .2))) in
+    (omega (arith, s .pre .1), omega (arith, s .pre .2), s .pre .3, omega (arith, head .0, sizes))
 
 returns : tie.Need-returns
 returns c =
