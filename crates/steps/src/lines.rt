@@ -15,9 +15,6 @@ ghost use Rattle.text.specs.Append.{Adds};
 ghost use Rattle.steps.specs.Steps.{node, nameText, lineText, costAt, entryText, linesFrom, checkSteps};
 ghost use Rattle.steps.specs.Seek.{nameOf, namesIn};
 
-// The largest number of entries of a list.
-pub const MAX_LIST: usize = 6656;
-
 // Where a line ends, and the sum up to it.
 pub struct Line {
     pub end: usize,
