@@ -65,6 +65,6 @@ pub fn steps(file: &[u8], next: usize, explain: bool) {
     }
     let n = given.length;
     let mut text = [0; STEPS_TEXT];
-    describe::show(file, &mut text);
-    failed();
+    let answer = steps::name_steps(file, &list[..n], &mut text);
+    described(answer, &text, Subject::List, explain);
 }

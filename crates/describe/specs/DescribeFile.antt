@@ -3,14 +3,11 @@ use Prim.Native.Nat.{ℕ, min}
 use mathlib.Core.List.{List, [], _∷_}
 use lib.ListN.{length, take}
 use Rattle.facts.specs.Read.{Read, accepted, refused, withValue, _>>=_}
-use Rattle.facts.specs.Run.{atMost}
 use Rattle.facts.specs.Write.{over}
 use Rattle.taskfile.specs.Task.{Task}
 use Rattle.taskfile.specs.TaskFile.{readTask, actionOf}
-use Rattle.probe.specs.Probe.{maxList}
 use Rattle.describe.specs.Show.{taskText}
 use Rattle.describe.specs.Dot.{dotText}
-use Rattle.describe.specs.Steps.{namesOf, linesFrom}
 
 -- the file f
 module _ (f : List ℕ) where
@@ -28,13 +25,6 @@ module _ (f : List ℕ) where
     t ← readTask f
     x ← actionOf (t .actions) a
     accepted (dotText a (x ∷ []))
-
-  -- the steps of a probe list by name: 8 for a list over its limit, then 11 at the index of a number that no step has
-  unfoldable pub named : List ℕ → Read (List ℕ)
-  named list = do
-    t ← readTask f
-    _ ← atMost maxList list
-    linesFrom (namesOf t) 0 0 list
 
 -- how much of a text is written into a buffer with so much room, and what the buffer then is: the text is cut where the room ends, and a refusal changes nothing
 unfoldable pub lengthIn : ℕ → Read (List ℕ) → Read ℕ

@@ -23,7 +23,7 @@ use Rattle.describe.specs.Words.{partialText}
 use Rattle.describe.specs.Show.{variableText, actionText, taskText}
 use Rattle.describe.specs.Dot.{dotAction, dotText}
 use Rattle.describe.specs.DotLaws.{drawing-text, row-one}
-use Rattle.describe.specs.Rows.{rowText, actionFor}
+use Rattle.describe.specs.Rows.{rowFrom, actionFor}
 use Rattle.describe.specs.RowLaws.{actions-row, list-row}
 use Rattle.describe.specs.DescribeFile.{shown, drawn, drawnAction, lengthIn, textIn}
 
@@ -75,20 +75,20 @@ module _ (f : List ℕ) where
     shown-is = rw (there f ready .reads)
 
     -- The texts of the actions in place are those of the task's.
-    pub actions-text : (text : ℕ → Action → List ℕ) {sizes : List ℕ} → sizes ≡ t .sizes
-        → rowText (λ a. text a (actionFor f sizes begins (i .firsts) (i .nodes) a)) 0 (length begins) ≡ flat text 0 (t .actions)
+    pub actions-text : {X : Type 0} (text : ℕ → Action → List X) {sizes : List ℕ} → sizes ≡ t .sizes
+        → rowFrom (λ a. text a (actionFor f sizes begins (i .firsts) (i .nodes) a)) 0 (length begins) ≡ flat text 0 (t .actions)
     actions-text text {sizes} e =
         sym (actions-row f text sizes begins (i .firsts) (i .nodes) 0 (length begins))
         ∙ ap (flat text 0) (ap (λ (ds : List ℕ). actionsIn f ds begins (i .firsts) (i .nodes) 0 (length begins)) e ∙ actions-in-place f ready)
 
     -- What is written, one part after the other, is the task's text.
     pub task-text : {sizes init : List ℕ} {goal : ℕ} → sizes ≡ t .sizes → init ≡ t .init → goal ≡ 1 + 2 * i .variables
-        → rowText (λ v. variableText v (getD sizes v 0) (getD init v 0)) 0 (length sizes)
-        ++ (bytes "goal:" ++ (partialText (length sizes) (partialAt f goal) ++ (bytes "\n" ++ rowText (λ a. actionText (length sizes) a (actionFor f sizes begins (i .firsts) (i .nodes) a)) 0 (length begins))))
+        → rowFrom (λ v. variableText v (getD sizes v 0) (getD init v 0)) 0 (length sizes)
+        ++ (bytes "goal:" ++ (partialText (length sizes) (partialAt f goal) ++ (bytes "\n" ++ rowFrom (λ a. actionText (length sizes) a (actionFor f sizes begins (i .firsts) (i .nodes) a)) 0 (length begins))))
         ≡ taskText t
     unfolding taskText
     task-text {sizes} {init} {goal} s h g =
-        let names : rowText (λ v. variableText v (getD sizes v 0) (getD init v 0)) 0 (length sizes) ≡ flat (λ v size. variableText v size (getD (t .init) v 0)) 0 (t .sizes) =
+        let names : rowFrom (λ v. variableText v (getD sizes v 0) (getD init v 0)) 0 (length sizes) ≡ flat (λ v size. variableText v size (getD (t .init) v 0)) 0 (t .sizes) =
         rw (s, h) (sym (list-row (λ v size. variableText v size (getD (t .init) v 0)) (t .sizes) (t .sizes) 0 (λ k j l e. let same : j ≡ k = omega arith in rw same))) in
         let goal-is : partialAt f goal ≡ t .goal = ap (partialAt f) g ∙ starts f ready .goal in
         rw (names, goal-is, actions-text (actionText (length sizes)) s, s)
@@ -99,10 +99,10 @@ module _ (f : List ℕ) where
     drawn-is = rw (there f ready .reads)
 
     pub drawing-is : {sizes : List ℕ} → sizes ≡ t .sizes
-        → bytes "digraph costs {\n" ++ (rowText (λ a. dotAction a (actionFor f sizes begins (i .firsts) (i .nodes) a)) 0 (i .actions - 0) ++ bytes "}\n") ≡ dotText 0 (t .actions)
+        → bytes "digraph costs {\n" ++ (rowFrom (λ a. dotAction a (actionFor f sizes begins (i .firsts) (i .nodes) a)) 0 (i .actions - 0) ++ bytes "}\n") ≡ dotText 0 (t .actions)
     drawing-is {sizes} s =
         let count : i .actions - 0 ≡ length begins = omega (arith, starts-count f ready, there f ready .actions) in
-        drawing-text 0 (t .actions) (ap (rowText (λ a. dotAction a (actionFor f sizes begins (i .firsts) (i .nodes) a)) 0) count ∙ actions-text dotAction s)
+        drawing-text 0 (t .actions) (ap (rowFrom (λ a. dotAction a (actionFor f sizes begins (i .firsts) (i .nodes) a)) 0) count ∙ actions-text dotAction s)
 
     -- The diagram of one action.
     module _ (a : ℕ) where
@@ -118,6 +118,6 @@ module _ (f : List ℕ) where
           rw (there f ready .reads, look (x .1), actionOf, same)
 
       pub diagram-is : (sizes : List ℕ)
-          → bytes "digraph costs {\n" ++ (rowText (λ a. dotAction a (actionFor f sizes begins (i .firsts) (i .nodes) a)) a (a + 1 - a) ++ bytes "}\n")
+          → bytes "digraph costs {\n" ++ (rowFrom (λ a. dotAction a (actionFor f sizes begins (i .firsts) (i .nodes) a)) a (a + 1 - a) ++ bytes "}\n")
           ≡ dotText a (actionFor f sizes begins (i .firsts) (i .nodes) a ∷ [])
       diagram-is sizes = drawing-text a (actionFor f sizes begins (i .firsts) (i .nodes) a ∷ []) (row-one (λ a. dotAction a (actionFor f sizes begins (i .firsts) (i .nodes) a)) a)

@@ -11,7 +11,7 @@ use Rattle.compilation.specs.Compile.{flat}
 use Rattle.text.specs.Append.{bytes, Adds}
 use Rattle.text.specs.AppendLaws.{adds-as}
 use Rattle.describe.specs.Dot.{nodeName, dotEdge, dotNode, dotAction, dotText}
-use Rattle.describe.specs.Rows.{rowText, AddsTwo, nodeFor}
+use Rattle.describe.specs.Rows.{rowFrom, AddsTwo, nodeFor}
 use Rattle.describe.specs.RowLaws.{nodes-row}
 
 -- An edge by its parts.
@@ -22,7 +22,7 @@ arrow-as a i d e t w v = adds-as (ap₂ (λ (t w : ℕ). dotEdge a i d (record {
 -- the file f
 module _ (f sizes offsets : List ℕ) (a : ℕ) {m count : ℕ} (e : m ≡ count) where
   -- The nodes at these offsets.
-  pub vertices-text : rowText (λ j. dotNode a (1 + j) (nodeFor f sizes offsets j)) 0 m ≡ flat (dotNode a) 1 (nodesIn f sizes offsets 0 count)
+  pub vertices-text : rowFrom (λ j. dotNode a (1 + j) (nodeFor f sizes offsets j)) 0 m ≡ flat (dotNode a) 1 (nodesIn f sizes offsets 0 count)
   vertices-text = sym (nodes-row f (dotNode a) sizes offsets 1 0 m (omega arith)) ∙ ap (λ (k : ℕ). flat (dotNode a) 1 (nodesIn f sizes offsets 0 k)) e
 
   -- The terminal comes after them.
@@ -39,5 +39,5 @@ unfolding dotText
 drawing-text a xs e = ap (λ (r : List ℕ). bytes "digraph costs {\n" ++ (r ++ bytes "}\n")) e
 
 -- A row of one.
-pub row-one : (text : ℕ → List ℕ) (a : ℕ) → rowText text a (a + 1 - a) ≡ text a ++ []
-row-one text a = let e : a + 1 - a ≡ 1 = omega arith in ap (rowText text a) e
+pub row-one : (text : ℕ → List ℕ) (a : ℕ) → rowFrom text a (a + 1 - a) ≡ text a ++ []
+row-one text a = let e : a + 1 - a ≡ 1 = omega arith in ap (rowFrom text a) e

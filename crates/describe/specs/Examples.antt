@@ -1,17 +1,15 @@
--- Task P of document 01 in words, and the steps of its probe list.
+-- Task P of document 01 in words, and its cost diagram.
 use mathlib.Core.Path.{_≡_, refl}
 use mathlib.Core.List.{[], _∷_}
-use Rattle.facts.specs.Read.{accepted, refused}
 use Rattle.taskfile.specs.Task.{Task}
 use Rattle.text.specs.Text.{decimal}
 use Rattle.text.specs.Append.{bytes}
 use Rattle.describe.specs.Words.{partialText}
 use Rattle.describe.specs.Show.{targetText, taskText}
 use Rattle.describe.specs.Dot.{dotText}
-use Rattle.describe.specs.Steps.{namesOf, linesFrom}
 
 -- task P
-abbrev taskP : Task
+abbrev pub taskP : Task
 taskP = record {
   sizes = 2 ∷ [];
   init = 0 ∷ [];
@@ -33,11 +31,3 @@ in-words = refl
 drawing : dotText 0 (taskP .actions) ≡ bytes "digraph costs {\n  a0 [shape=plaintext, label=\"action 0\"];\n  a0 -> a0n1 [label=\"+3\"];\n  a0n1 [label=\"variable 0\"];\n  a0n1 -> a0n2 [label=\"0: +5\"];\n  a0n1 -> a0n2 [label=\"1: +0\"];\n  a0n2 [shape=box, label=\"end\"];\n}\n"
 unfolding dotText decimal
 drawing = refl
-
-steps : linesFrom (namesOf taskP) 0 0 (0 ∷ 1 ∷ 3 ∷ []) ≡ accepted (bytes "0 start of action 0: cost 3, sum 3\n1 action 0, node 1 at variable 0 = 0: cost 5, sum 8\n3 end of action 0: cost 0, sum 8\n")
-unfolding namesOf decimal
-steps = refl
-
-no-step : linesFrom (namesOf taskP) 0 0 (0 ∷ 4 ∷ []) ≡ refused 11 1
-unfolding namesOf
-no-step = refl

@@ -2,7 +2,6 @@
 pub mod Words
 pub mod Show
 pub mod Dot
-pub mod Steps
 pub mod DescribeFile
 pub mod Answers
 pub mod Rows

@@ -7,10 +7,10 @@ use Rattle.taskfile.specs.TaskFile.{edgeBytes}
 use Rattle.taskfile.specs.PartsInPlace.{edgeIn, nodeIn, actionIn}
 use Rattle.text.specs.Append.{Adds}
 
--- the texts of `count` numbers from i on
-abbrev pub rowText : (ℕ → List ℕ) → ℕ → ℕ → List ℕ
-rowText text i zero = []
-rowText text i (suc count) = text i ++ rowText text (suc i) count
+-- what f gives for each of `count` numbers from i on, each straight after the last one's
+abbrev pub rowFrom : {X : Type 0} → (ℕ → List X) → ℕ → ℕ → List X
+rowFrom f i zero = []
+rowFrom f i (suc count) = f i ++ rowFrom f (suc i) count
 
 -- two texts were written, one straight after the other
 pub record AddsTwo (xs ys before now : List ℕ) (at end : ℕ) : Type 0 where

@@ -13,7 +13,7 @@ use Rattle.text.specs.Text.{decimal}
 use Rattle.text.specs.Append.{bytes, Adds}
 use Rattle.text.specs.AppendLaws.{adds-as}
 use Rattle.describe.specs.Show.{targetText, edgeText, nodeText, costText}
-use Rattle.describe.specs.Rows.{rowText, nodeFor}
+use Rattle.describe.specs.Rows.{rowFrom, nodeFor}
 use Rattle.describe.specs.RowLaws.{nodes-row}
 
 -- An edge leads to a node, or to the terminal.
@@ -33,7 +33,7 @@ edge-as m d e t w v = adds-as (ap₂ (λ (t w : ℕ). edgeText m d (record { tar
 -- the file f
 module _ (f sizes : List ℕ) where
   -- The nodes at these offsets.
-  pub nodes-text : (offsets : List ℕ) (m : ℕ) → rowText (λ j. nodeText m (1 + j) (nodeFor f sizes offsets j)) 0 m ≡ flat (nodeText (length (nodesIn f sizes offsets 0 m))) 1 (nodesIn f sizes offsets 0 m)
+  pub nodes-text : (offsets : List ℕ) (m : ℕ) → rowFrom (λ j. nodeText m (1 + j) (nodeFor f sizes offsets j)) 0 m ≡ flat (nodeText (length (nodesIn f sizes offsets 0 m))) 1 (nodesIn f sizes offsets 0 m)
   nodes-text offsets m =
       sym (nodes-row f (nodeText m) sizes offsets 1 0 m (omega arith)) ∙ ap (λ (k : ℕ). flat (nodeText k) 1 (nodesIn f sizes offsets 0 m)) (sym (nodes-long f sizes offsets 0 m))
 

@@ -11,7 +11,7 @@ ghost use Prim.Native.Nat.{_+_, _-_};
 ghost use Rattle.taskfile.specs.PartsInPlace.{nodeIn, actionIn};
 ghost use Rattle.text.specs.Append.{bytes, Adds};
 ghost use Rattle.describe.specs.Dot.{nodeName, dotEdge, dotNode, dotEntry, dotAction};
-ghost use Rattle.describe.specs.Rows.{rowText, AddsTwo, edgeFor, nodeFor, actionFor};
+ghost use Rattle.describe.specs.Rows.{rowFrom, AddsTwo, edgeFor, nodeFor, actionFor};
 
 // All actions from number `from` up to `end`, in one drawing: `starts` has the offset of each, `firsts` the index of its first node in `nodes`.
 pub fn put_drawing(
@@ -24,7 +24,7 @@ pub fn put_drawing(
     from: usize,
     end: usize,
 ) -> usize
-    ensures { λ r. ⌜ Adds (bytes "digraph costs {\n" ++ (rowText (λ a. dotAction a (actionFor (now (file .entry)) (now (sizes .entry)) (now (starts .entry)) (now (firsts .entry)) (now (nodes .entry)) a)) from (end - from) ++ bytes "}\n")) (now (out .entry)) (now (out .exit)) 0 r ⌝ }
+    ensures { λ r. ⌜ Adds (bytes "digraph costs {\n" ++ (rowFrom (λ a. dotAction a (actionFor (now (file .entry)) (now (sizes .entry)) (now (starts .entry)) (now (firsts .entry)) (now (nodes .entry)) a)) from (end - from) ++ bytes "}\n")) (now (out .entry)) (now (out .exit)) 0 r ⌝ }
 {
     let opened = append(out, 0, b"digraph costs {\n");
     let drawn = put_diagrams(out, opened, file, sizes, starts, firsts, nodes, from, end);
@@ -43,7 +43,7 @@ fn put_diagrams(
     from: usize,
     end: usize,
 ) -> usize
-    ensures { λ r. ⌜ Adds (rowText (λ a. dotAction a (actionFor (now (file .entry)) (now (sizes .entry)) (now (starts .entry)) (now (firsts .entry)) (now (nodes .entry)) a)) from (end - from)) (now (out .entry)) (now (out .exit)) at r ⌝ }
+    ensures { λ r. ⌜ Adds (rowFrom (λ a. dotAction a (actionFor (now (file .entry)) (now (sizes .entry)) (now (starts .entry)) (now (firsts .entry)) (now (nodes .entry)) a)) from (end - from)) (now (out .entry)) (now (out .exit)) at r ⌝ }
 {
     let mut past = at;
     let mut a = from;
@@ -113,7 +113,7 @@ fn put_vertices(
     m: usize,
     a: usize,
 ) -> usize
-    ensures { λ r. ⌜ Adds (rowText (λ j. dotNode a (1 + j) (nodeFor (now (file .entry)) (now (sizes .entry)) (now (nodes .entry)) j)) 0 m) (now (out .entry)) (now (out .exit)) at r ⌝ }
+    ensures { λ r. ⌜ Adds (rowFrom (λ j. dotNode a (1 + j) (nodeFor (now (file .entry)) (now (sizes .entry)) (now (nodes .entry)) j)) 0 m) (now (out .entry)) (now (out .exit)) at r ⌝ }
 {
     let mut end = at;
     let mut j: usize = 0;
@@ -161,7 +161,7 @@ fn put_arrows(
     a: usize,
     i: usize,
 ) -> usize
-    ensures { λ r. ⌜ Adds (rowText (λ d. dotEdge a i d (edgeFor (now (file .entry)) node d)) 0 count) (now (out .entry)) (now (out .exit)) at r ⌝ }
+    ensures { λ r. ⌜ Adds (rowFrom (λ d. dotEdge a i d (edgeFor (now (file .entry)) node d)) 0 count) (now (out .entry)) (now (out .exit)) at r ⌝ }
 {
     let mut end = at;
     let mut d: u8 = 0;

@@ -1,7 +1,7 @@
-// Tasks in words, their cost diagrams for Graphviz, and the steps of a probe list by name: written into the caller's buffer, cut where its room ends.
+// Tasks in words, and their cost diagrams for Graphviz: written into the caller's buffer, cut where its room ends.
 mod dot;
 mod task;
-mod words;
+pub mod words;
 
 use facts::Refusal;
 use taskfile::Counted;

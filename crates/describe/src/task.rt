@@ -15,7 +15,7 @@ ghost use Rattle.taskfile.specs.Task.{Edge};
 ghost use Rattle.taskfile.specs.PartsInPlace.{nodeIn, nodesIn, actionIn};
 ghost use Rattle.text.specs.Append.{Adds};
 ghost use Rattle.describe.specs.Show.{variableText, targetText, edgeText, nodeText, statesText, costText, actionText};
-ghost use Rattle.describe.specs.Rows.{rowText, edgeFor, nodeFor, actionFor};
+ghost use Rattle.describe.specs.Rows.{rowFrom, edgeFor, nodeFor, actionFor};
 
 // A variable: how many values it has, and its initial one.
 fn put_variable(out: &mut [u8], at: usize, v: usize, size: u8, value: u8) -> usize
@@ -29,7 +29,7 @@ fn put_variable(out: &mut [u8], at: usize, v: usize, size: u8, value: u8) -> usi
 
 // All variables, with these sizes and initial values.
 pub fn put_variables(out: &mut [u8], at: usize, sizes: &[u8], init: &[u8]) -> usize
-    ensures { λ r. ⌜ Adds (rowText (λ v. variableText v (getD (now (sizes .entry)) v 0) (getD (now (init .entry)) v 0)) 0 (length (now (sizes .entry)))) (now (out .entry)) (now (out .exit)) at r ⌝ }
+    ensures { λ r. ⌜ Adds (rowFrom (λ v. variableText v (getD (now (sizes .entry)) v 0) (getD (now (init .entry)) v 0)) 0 (length (now (sizes .entry)))) (now (out .entry)) (now (out .exit)) at r ⌝ }
 {
     let mut end = at;
     let mut v: usize = 0;
@@ -63,7 +63,7 @@ fn put_edge(out: &mut [u8], at: usize, m: usize, d: u8, target: usize, weight: u
 
 // The edges of the node at an offset, of m: one for each of `count` values.
 fn put_edges(out: &mut [u8], at: usize, file: &[u8], node: usize, count: u8, m: usize) -> usize
-    ensures { λ r. ⌜ Adds (rowText (λ d. edgeText m d (edgeFor (now (file .entry)) node d)) 0 count) (now (out .entry)) (now (out .exit)) at r ⌝ }
+    ensures { λ r. ⌜ Adds (rowFrom (λ d. edgeText m d (edgeFor (now (file .entry)) node d)) 0 count) (now (out .entry)) (now (out .exit)) at r ⌝ }
 {
     let mut end = at;
     let mut d: u8 = 0;
@@ -103,7 +103,7 @@ fn put_nodes(
     nodes: &[usize],
     m: usize,
 ) -> usize
-    ensures { λ r. ⌜ Adds (rowText (λ j. nodeText m (1 + j) (nodeFor (now (file .entry)) (now (sizes .entry)) (now (nodes .entry)) j)) 0 m) (now (out .entry)) (now (out .exit)) at r ⌝ }
+    ensures { λ r. ⌜ Adds (rowFrom (λ j. nodeText m (1 + j) (nodeFor (now (file .entry)) (now (sizes .entry)) (now (nodes .entry)) j)) 0 m) (now (out .entry)) (now (out .exit)) at r ⌝ }
 {
     let mut end = at;
     let mut j: usize = 0;
@@ -189,7 +189,7 @@ pub fn put_actions(
     firsts: &[usize],
     nodes: &[usize],
 ) -> usize
-    ensures { λ r. ⌜ Adds (rowText (λ a. actionText (length (now (sizes .entry))) a (actionFor (now (file .entry)) (now (sizes .entry)) (now (starts .entry)) (now (firsts .entry)) (now (nodes .entry)) a)) 0 (length (now (starts .entry)))) (now (out .entry)) (now (out .exit)) at r ⌝ }
+    ensures { λ r. ⌜ Adds (rowFrom (λ a. actionText (length (now (sizes .entry))) a (actionFor (now (file .entry)) (now (sizes .entry)) (now (starts .entry)) (now (firsts .entry)) (now (nodes .entry)) a)) 0 (length (now (starts .entry)))) (now (out .entry)) (now (out .exit)) at r ⌝ }
 {
     let mut end = at;
     let mut a: usize = 0;

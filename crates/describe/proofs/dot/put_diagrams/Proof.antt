@@ -8,7 +8,7 @@ use Rattle.taskfile.specs.MoveInPlaceLaws.{own-nodes}
 use Rattle.taskfile.specs.PartsInPlace.{actionIn}
 use Rattle.text.specs.AppendLaws.{adds-as}
 use Rattle.describe.specs.Dot.{dotAction}
-use Rattle.describe.specs.Rows.{rowText, actionFor}
+use Rattle.describe.specs.Rows.{rowFrom, actionFor}
 use Rattle.describe.specs.RowLaws.{Row, row-start, row-more, row-end}
 use borrow.Author.Needs.{needs}
 use native.Mathlib.Omega.{arith}
@@ -21,7 +21,7 @@ text file sizes starts firsts nodes a = dotAction a (actionFor file sizes starts
 
 abbrev Inv-loop : tie.InvT-loop
 Inv-loop out₀ at file sizes starts firsts nodes from end past₀ a₀ out past a =
-    Row (text file sizes starts firsts nodes) (rowText (text file sizes starts firsts nodes) from (end - from)) out₀ out at past a end
+    Row (text file sizes starts firsts nodes) (rowFrom (text file sizes starts firsts nodes) from (end - from)) out₀ out at past a end
 
 abbrev μ-loop : tie.MeasureT-loop
 μ-loop out₀ at file sizes starts firsts nodes from end past₀ a₀ out past a = end - a

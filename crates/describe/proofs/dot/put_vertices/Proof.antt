@@ -6,7 +6,7 @@ use denote.Ref.{now}
 use Rattle.taskfile.specs.PartsInPlace.{nodeIn}
 use Rattle.text.specs.AppendLaws.{adds-as}
 use Rattle.describe.specs.Dot.{dotNode}
-use Rattle.describe.specs.Rows.{rowText, nodeFor}
+use Rattle.describe.specs.Rows.{rowFrom, nodeFor}
 use Rattle.describe.specs.RowLaws.{Row, row-start, row-more, row-end}
 use borrow.Author.Needs.{needs}
 use native.Mathlib.Omega.{arith}
@@ -18,7 +18,7 @@ abbrev text : List ℕ → List ℕ → List ℕ → ℕ → ℕ → List ℕ
 text file sizes nodes a j = dotNode a (1 + j) (nodeFor file sizes nodes j)
 
 abbrev Inv-loop : tie.InvT-loop
-Inv-loop out₀ at file sizes nodes m a end₀ j₀ out end j = Row (text file sizes nodes a) (rowText (text file sizes nodes a) 0 m) out₀ out at end j m
+Inv-loop out₀ at file sizes nodes m a end₀ j₀ out end j = Row (text file sizes nodes a) (rowFrom (text file sizes nodes a) 0 m) out₀ out at end j m
 
 abbrev μ-loop : tie.MeasureT-loop
 μ-loop out₀ at file sizes nodes m a end₀ j₀ out end j = m - j

@@ -4,7 +4,7 @@ use mathlib.Core.List.{List}
 use denote.Ref.{now}
 use Rattle.describe.specs.Show.{edgeText}
 use Rattle.describe.specs.ShowLaws.{edge-as}
-use Rattle.describe.specs.Rows.{rowText, edgeFor}
+use Rattle.describe.specs.Rows.{rowFrom, edgeFor}
 use Rattle.describe.specs.RowLaws.{Row, row-start, row-more, row-end}
 use borrow.Author.Needs.{needs}
 use native.Mathlib.Omega.{arith}
@@ -16,7 +16,7 @@ abbrev text : List ℕ → ℕ → ℕ → ℕ → List ℕ
 text file node m d = edgeText m d (edgeFor file node d)
 
 abbrev Inv-loop : tie.InvT-loop
-Inv-loop out₀ at file node count m end₀ d₀ out end d = Row (text file node m) (rowText (text file node m) 0 count) out₀ out at end d count
+Inv-loop out₀ at file node count m end₀ d₀ out end d = Row (text file node m) (rowFrom (text file node m) 0 count) out₀ out at end d count
 
 abbrev μ-loop : tie.MeasureT-loop
 μ-loop out₀ at file node count m end₀ d₀ out end d = count - d

@@ -6,7 +6,7 @@ use lib.ListN.{length, getD}
 use denote.Ref.{now}
 use Rattle.text.specs.AppendLaws.{adds-as}
 use Rattle.describe.specs.Show.{variableText}
-use Rattle.describe.specs.Rows.{rowText}
+use Rattle.describe.specs.Rows.{rowFrom}
 use Rattle.describe.specs.RowLaws.{Row, row-start, row-more, row-end}
 use borrow.Author.Needs.{needs}
 use native.Mathlib.Omega.{arith}
@@ -18,7 +18,7 @@ abbrev text : List ℕ → List ℕ → ℕ → List ℕ
 text sizes init v = variableText v (getD sizes v 0) (getD init v 0)
 
 abbrev Inv-loop : tie.InvT-loop
-Inv-loop out₀ at sizes init end₀ v₀ out end v = Row (text sizes init) (rowText (text sizes init) 0 (length sizes)) out₀ out at end v (length sizes)
+Inv-loop out₀ at sizes init end₀ v₀ out end v = Row (text sizes init) (rowFrom (text sizes init) 0 (length sizes)) out₀ out at end v (length sizes)
 
 abbrev μ-loop : tie.MeasureT-loop
 μ-loop out₀ at sizes init end₀ v₀ out end v = length sizes - v

@@ -3,7 +3,7 @@ use mathlib.Core.Option.{none, some}
 use Prim.Native.Nat.{ℕ, suc, _+_}
 use mathlib.Core.List.{List, [], _∷_, _++_}
 use lib.ListN.{getElem?}
-use Rattle.facts.specs.Read.{Read, accepted, refused, withValue}
+use Rattle.facts.specs.Read.{Read, accepted, refused}
 use Rattle.taskfile.specs.Task.{Edge, Node, Action, Task}
 use Rattle.compilation.specs.Compile.{mapFrom, flat}
 use Rattle.text.specs.Text.{decimal}
@@ -39,11 +39,19 @@ nameText (end a) = bytes "end of action " ++ decimal a
 abbrev pub lineText : ℕ → Named → ℕ → List ℕ
 lineText k x sum = decimal k ++ (bytes " " ++ (nameText (x .name) ++ (bytes ": cost " ++ (decimal (x .cost) ++ (bytes ", sum " ++ (decimal sum ++ bytes "\n"))))))
 
--- The lines of a list from index i on, with the sum before it; 11 at the index of a number that no step has.
-abbrev pub linesFrom : List Named → ℕ → ℕ → List ℕ → Read (List ℕ)
-linesFrom names i sum [] = accepted []
-linesFrom names i sum (k ∷ list) =
-    elim (getElem? names k) [
-      | none ↦ refused 11 i
-      | some x ↦ withValue (λ (text : List ℕ). lineText k x (sum + x .cost) ++ text) (linesFrom names (suc i) (sum + x .cost) list)
-    ]
+-- step number k: what it costs, and its line, with the sum before it; nothing where there is none
+abbrev pub costAt : List Named → ℕ → ℕ
+costAt names k = elim (getElem? names k) [ none ↦ 0 | some x ↦ x .cost ]
+
+abbrev pub entryText : List Named → ℕ → ℕ → List ℕ
+entryText names k sum = elim (getElem? names k) [ none ↦ [] | some x ↦ lineText k x (sum + x .cost) ]
+
+-- the lines of a list, with the sum before it
+abbrev pub linesFrom : List Named → ℕ → List ℕ → List ℕ
+linesFrom names sum [] = []
+linesFrom names sum (k ∷ list) = entryText names k sum ++ linesFrom names (sum + costAt names k) list
+
+-- each number of a list is a step's, else 11 at its index; the first has the index i
+abbrev pub checkSteps : List Named → ℕ → List ℕ → Read (Unit {0})
+checkSteps names i [] = accepted tt
+checkSteps names i (k ∷ list) = elim (getElem? names k) [ none ↦ refused 11 i | some x ↦ checkSteps names (suc i) list ]

@@ -1,0 +1,10 @@
+-- Definitions.
+pub mod Steps
+pub mod NamedFile
+pub mod Seek
+-- Laws.
+pub mod SeekLaws
+pub mod StepsLaws
+pub mod CostLaws
+-- The examples, computed.
+pub mod Examples

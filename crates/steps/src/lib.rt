@@ -1,0 +1,71 @@
+// The steps of a probe list by name, for the probe file written from a task file: into the caller's buffer, cut where its room ends.
+mod find;
+mod lines;
+
+use describe::Described;
+use facts::Checked;
+use facts::Refusal;
+use probe::Probe;
+use taskfile::Counted;
+ghost use mathlib.Core.Path.{_≡_};
+ghost use lib.ListN.{length};
+ghost use Rattle.taskfile.specs.Index.{Ready};
+ghost use Rattle.describe.specs.Answers.{describedAnswer};
+ghost use Rattle.describe.specs.DescribeFile.{lengthIn, textIn};
+ghost use Rattle.steps.specs.NamedFile.{named};
+
+// The steps of a list, a line each: the task file's refusals, then 8, then 11 at the first index that has no step; a refusal changes no byte.
+pub fn name_steps(file: &[u8], list: &[u16], out: &mut [u8]) -> Described
+    ensures { λ r. ⌜ describedAnswer r ≡ lengthIn (length (now (out .entry))) (named (now (file .entry)) (now (list .entry))) ⌝ }
+    ensures { λ r. ⌜ now (out .exit) ≡ textIn (now (out .entry)) (named (now (file .entry)) (now (list .entry))) ⌝ }
+{
+    let mut starts = [0; 32];
+    let mut firsts = [0; 32];
+    let mut nodes = [0; 64];
+    let counted = taskfile::index_in(file, &mut starts, &mut firsts, &mut nodes);
+    match counted {
+        Counted::Refused(why) => Described::Refused(why),
+        Counted::Actions(variables, actions) => {
+            name_in(
+                file,
+                variables,
+                actions,
+                &starts,
+                &firsts,
+                &nodes,
+                list,
+                out,
+            )
+        }
+    }
+}
+
+// The same, of a file that is accepted.
+fn name_in(
+    file: &[u8],
+    variables: usize,
+    actions: usize,
+    starts: &[usize],
+    firsts: &[usize],
+    nodes: &[usize],
+    list: &[u16],
+    out: &mut [u8],
+) -> Described
+    requires { ⌜ Ready (now file) (record { variables = variables; actions = actions; starts = now starts; firsts = now firsts; nodes = now nodes }) ⌝ }
+    ensures { λ r. ⌜ describedAnswer r ≡ lengthIn (length (now (out .entry))) (named (now (file .entry)) (now (list .entry))) ⌝ }
+    ensures { λ r. ⌜ now (out .exit) ≡ textIn (now (out .entry)) (named (now (file .entry)) (now (list .entry))) ⌝ }
+{
+    if Probe::MAX_LIST < list.len() {
+        return Described::Refused(Refusal::Long(Probe::MAX_LIST));
+    }
+    let last = 1 + variables;
+    let sizes = &file[1..last];
+    let action_at = &starts[..actions];
+    match lines::check_steps(file, sizes, action_at, firsts, nodes, list) {
+        Checked::Refused(why) => Described::Refused(why),
+        Checked::Accepted => {
+            let end = lines::put_lines(out, file, sizes, action_at, firsts, nodes, list);
+            Described::Length(end)
+        }
+    }
+}
