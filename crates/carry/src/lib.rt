@@ -37,7 +37,7 @@ pub fn expand(file: &[u8], list: &[u16], out: &mut [u16]) -> Carried
     ensures { λ r. ⌜ carriedAnswer r ≡ answerIn (length (now (out .entry))) (expanded (now (file .entry)) (now (list .entry))) ⌝ }
     ensures { λ r. ⌜ now (out .exit) ≡ bufferIn (now (out .entry)) (expanded (now (file .entry)) (now (list .entry))) ⌝ }
 {
-    let mut starts = [0; 32];
+    let mut starts = [0; Task::PLACES];
     let mut firsts = [0; 32];
     let mut nodes = [0; 64];
     let counted = taskfile::index_in(file, &mut starts, &mut firsts, &mut nodes);
@@ -141,7 +141,7 @@ pub fn contract(file: &[u8], list: &[u16], out: &mut [u16]) -> Carried
     ensures { λ r. ⌜ carriedAnswer r ≡ answerIn (length (now (out .entry))) (contracted (now (file .entry)) (now (list .entry))) ⌝ }
     ensures { λ r. ⌜ now (out .exit) ≡ bufferIn (now (out .entry)) (contracted (now (file .entry)) (now (list .entry))) ⌝ }
 {
-    let mut starts = [0; 32];
+    let mut starts = [0; Task::PLACES];
     let mut firsts = [0; 32];
     let mut nodes = [0; 64];
     let counted = taskfile::index_in(file, &mut starts, &mut firsts, &mut nodes);

@@ -1,7 +1,6 @@
 // A list of actions run, and its probe list written in the same walk.
 use crate::path::put_action;
 use crate::starts::number_steps;
-use compile::count::note_incoming;
 use facts::Applied;
 use facts::Ran;
 use facts::Refusal;
@@ -48,6 +47,7 @@ pub fn put_plan(
     let last = 1 + variables;
     let sizes = &file[1..last];
     let action_at = &starts[..actions];
+    let incoming_at = &starts[Task::INCOMING..Task::PLACES];
     let mut first_step = [0; 33];
     let mut first_edge = [0; 64];
     number_steps(
@@ -59,15 +59,13 @@ pub fn put_plan(
         &mut first_step,
         &mut first_edge,
     );
-    let mut incoming_at = [0; 32];
-    note_incoming(file, action_at, &mut incoming_at);
     let mut state = initial(file, variables);
     put_list(
         file,
         sizes,
         1 + 2 * variables,
         action_at,
-        &incoming_at,
+        incoming_at,
         firsts,
         nodes,
         &first_step,

@@ -5,7 +5,6 @@ use native.Mathlib.Omega.{arith}
 use mathlib.Core.List.{List, [], _++_}
 use lib.Count.{ones-le}
 use lib.ListN.{length, getD, take, drop, length-append}
-use borrow.Author.Tests.{le-leb, lt-leb}
 use Rattle.facts.specs.Lists.{total}
 use Rattle.facts.specs.Partial.{partialBytes, partialAt, pastPartial}
 use Rattle.facts.specs.InPlaceLaws.{past-is}
@@ -15,8 +14,8 @@ use Rattle.probe.specs.Probe.{Step}
 use Rattle.compilation.specs.Compile.{actionSteps, edgeCount}
 use Rattle.compilation.specs.StepLaws.{total-append, action-length}
 use Rattle.compilation.specs.CompiledLengthLaws.{stepBytes, action-total}
-use Rattle.taskfile.specs.PartsInPlace.{nodesIn, actionIn, Stood}
-use Rattle.compile.specs.InPlace.{Weighs, incomingIn, Incoming}
+use Rattle.taskfile.specs.PartsInPlace.{nodesIn, actionIn, Tests, Stood}
+use Rattle.compile.specs.InPlace.{Weighs}
 use Rattle.compile.specs.PutLaws.{standing-long}
 use Rattle.compile.specs.InPlaceLaws.{stepsLeft, left-next}
 
@@ -53,27 +52,9 @@ module _ (f : List ℕ) where
   bytes-in sizes n a {at} {own} s = omega (arith, action-total n a (actionIn f sizes at own), standing-long f at (s .pre .fits), standing-long f (pastPartial f at) (s .eff .fits))
 
   -- Where the incoming weight of the action at an offset stands, counted from its effect.
-  pub incoming-is : (at : ℕ) {effect incoming : ℕ} → effect ≡ pastPartial f at → incoming ≡ pastPartial f effect → incoming ≡ incomingPlace f at
-  unfolding incomingPlace
-  incoming-is at e i = i ∙ ap (pastPartial f) e
-
   pub incoming-past : (at : ℕ) {effect incoming : ℕ} → effect ≡ pastPartial f at → incoming ≡ incomingPlace f at → incoming ≡ pastPartial f effect
   unfolding incomingPlace
   incoming-past at e i = i ∙ ap (pastPartial f) (sym e)
-
-  -- The same for any offset, and for those of actions once they are noted.
-  pub incoming-inside : (at : ℕ) {effect incoming : ℕ} → at ≤ length f → effect ≡ pastPartial f at → incoming ≡ pastPartial f effect → incoming ≡ incomingIn f at
-  unfolding incomingIn
-  incoming-inside at l e i = rw (le-leb at (length f) l, incomingIn) (incoming-is at e i)
-
-  pub incoming-outside : (at : ℕ) → length f < at → 0 ≡ incomingIn f at
-  unfolding incomingIn
-  incoming-outside at l = rw (lt-leb at (length f) l, incomingIn)
-
-  pub incoming-noted : {actions before after : List ℕ} → Incoming f actions before after → length actions ≤ length before → ((a : ℕ) → a < length actions → getD actions a 0 ≤ length f)
-      → (a : ℕ) → a < length actions → getD after a 0 ≡ incomingPlace f (getD actions a 0)
-  unfolding incomingIn
-  incoming-noted {actions} n room inside a l = sym (n .noted a l (omega arith)) ∙ rw (le-leb (getD actions a 0) (length f) (inside a l), incomingIn)
 
   -- The incoming weight stands past the action's own partial states, within the file.
   pub states-are : {sizes own : List ℕ} {at incoming : ℕ} → Stood f sizes at own → incoming ≡ incomingPlace f at
@@ -94,6 +75,11 @@ module _ (f : List ℕ) where
   -- Where the incoming weight of an action of an accepted file stands.
   pub weighs : {sizes own : List ℕ} {at incoming : ℕ} → Stood f sizes at own → incoming ≡ incomingPlace f at → Weighs f at incoming
   weighs s e = record { place = e; fits = states-are s e .1; few = s .few }
+
+  -- An action's own nodes as they are lent: each tests one of the variables.
+  pub tests-own : (sizes nodes : List ℕ) (at n : ℕ) {k count : ℕ} → Stood f sizes at (drop n nodes) → k ≡ min n (length nodes) → count ≡ nodeCount f at
+      → (j : ℕ) → j < count → Tests f sizes (getD (take (length nodes - k) (drop k nodes)) j 0)
+  tests-own sizes nodes at n s h g j l = rw (own-nodes nodes n h) (s .nodes j (omega (arith, g, l)))
 
   -- The edges of an action's own nodes, which are those from index n on, where the index k is n, or the end of all offsets.
   pub edges-own : (sizes nodes : List ℕ) (at n : ℕ) {k count edges : ℕ} → k ≡ min n (length nodes) → count ≡ nodeCount f at

@@ -1,10 +1,8 @@
 -- The parts of a task in place: what code writes steps from that goes over the bytes of an accepted file, without reading it into values.
 use mathlib.Core.Path.{_≡_}
-use Prim.Native.Nat.{ℕ, suc, _+_, _≤_, _<_}
+use Prim.Native.Nat.{ℕ, suc, _+_, _≤_}
 use mathlib.Core.List.{List, _++_}
-use mathlib.Core.Bool.{true, false}
-use lib.Dec.{leb}
-use lib.ListN.{length, getD}
+use lib.ListN.{length}
 use Rattle.facts.specs.Partial.{Partial, partialAt, empty}
 use Rattle.facts.specs.Fields.{wordAt}
 use Rattle.taskfile.specs.Task.{maxNodes}
@@ -39,13 +37,3 @@ module _ (f : List ℕ) where
     pub place : incoming ≡ incomingPlace f at
     pub fits : incoming ≤ length f
     pub few : nodeCount f at ≤ maxNodes
-
-  -- where the incoming weight of the action at an offset stands; 0 for an offset past the end of the file
-  unfoldable pub incomingIn : ℕ → ℕ
-  incomingIn at = elim (leb at (length f)) [ true ↦ incomingPlace f at | false ↦ 0 ]
-
-  -- it is noted for each action, as far as a row, which was `before` and is `after`, has room
-  pub record Incoming (actions before after : List ℕ) : Type 0 where
-    pub count : length after ≡ length before
-    pub noted : (a : ℕ) → a < length actions → a < length before → incomingIn (getD actions a 0) ≡ getD after a 0
-    pub kept : (a : ℕ) → length actions ≤ a → getD after a 0 ≡ getD before a 0

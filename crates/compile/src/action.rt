@@ -6,10 +6,10 @@ use crate::step::put_start;
 use facts::number::byte_at;
 use facts::number::offset_at;
 use facts::number::offset_within;
-use facts::partial::length_at;
 ghost use mathlib.Core.Path.{_≡_};
 ghost use Prim.Native.Nat.{ℕ, _+_, _≤_, _<_};
 ghost use lib.ListN.{length, getD, drop};
+ghost use Rattle.facts.specs.Partial.{pastPartial};
 ghost use Rattle.facts.specs.Fields.{writeEach};
 ghost use Rattle.facts.specs.Write.{Wrote};
 ghost use Rattle.taskfile.specs.WalkInPlace.{incomingPlace};
@@ -17,17 +17,18 @@ ghost use Rattle.probe.specs.ProbeFile.{writeStep};
 ghost use Rattle.compilation.specs.Compile.{flat, nodeSteps, actionSteps};
 ghost use Rattle.taskfile.specs.PartsInPlace.{nodeIn, nodesIn, actionIn, actionsIn, Tests, Stood};
 
-// The steps of all actions: `action_at` has the offset of each, `incoming_at` that of its incoming weight, `first_node` the index of its first node in `node_at`.
+// The steps of all actions: `action_at` has the offset of each, `effect_at` and `incoming_at` those of its effect and its incoming weight, `first_node` the index of its first node in `node_at`.
 pub fn put_actions(
     file: &[u8],
     sizes: &[u8],
     action_at: &[usize],
+    effect_at: &[usize],
     incoming_at: &[usize],
     first_node: &[usize],
     node_at: &[usize],
     out: &mut [u8],
 ) -> usize
-    requires { ⌜ (length (now sizes) ≤ 24) × (length (now «action_at») ≤ 32) ⌝ }
+    requires { ⌜ (length (now sizes) ≤ 24) × (length (now «action_at») ≤ 32) × ((a : ℕ) → a < length (now «action_at») → getD (now «effect_at») a 0 ≡ pastPartial (now file) (getD (now «action_at») a 0)) ⌝ }
     requires { ⌜ ((a : ℕ) → a < length (now «action_at») → Stood (now file) (now sizes) (getD (now «action_at») a 0) (drop (getD (now «first_node») a 0) (now «node_at»))) × ((a : ℕ) → a < length (now «action_at») → getD (now «incoming_at») a 0 ≡ incomingPlace (now file) (getD (now «action_at») a 0)) ⌝ }
     requires { ⌜ length (writeEach writeStep (flat (actionSteps (length (now sizes))) 0 (actionsIn (now file) (now sizes) (now «action_at») (now «first_node») (now «node_at») 0 (length (now «action_at»))))) ≤ length (now out) ⌝ }
     ensures { λ r. ⌜ Wrote (writeEach writeStep (flat (actionSteps (length (now (sizes .entry)))) 0 (actionsIn (now (file .entry)) (now (sizes .entry)) (now («action_at» .entry)) (now («first_node» .entry)) (now («node_at» .entry)) 0 (length (now («action_at» .entry)))))) (now (out .entry)) (now (out .exit)) r ⌝ }
@@ -40,6 +41,7 @@ pub fn put_actions(
             file,
             sizes,
             action_at[a],
+            offset_at(effect_at, a),
             offset_at(incoming_at, a),
             &node_at[first..],
             a,
@@ -50,22 +52,22 @@ pub fn put_actions(
     at
 }
 
-// The steps of action a, at an offset, whose incoming weight stands at `incoming` and whose own nodes begin at the offsets `nodes`: the start, those of the nodes, the end.
+// The steps of action a, at an offset, whose effect and incoming weight stand at these and whose own nodes begin at the offsets `nodes`: the start, those of the nodes, the end.
 fn put_action(
     file: &[u8],
     sizes: &[u8],
     at: usize,
+    effect: usize,
     incoming: usize,
     nodes: &[usize],
     a: usize,
     out: &mut [u8],
 ) -> usize
-    requires { ⌜ Stood (now file) (now sizes) at (now nodes) × (incoming ≡ incomingPlace (now file) at) × (length (now sizes) ≤ 24) × (a < 32) ⌝ }
+    requires { ⌜ Stood (now file) (now sizes) at (now nodes) × (effect ≡ pastPartial (now file) at) × (incoming ≡ incomingPlace (now file) at) × (length (now sizes) ≤ 24) × (a < 32) ⌝ }
     requires { ⌜ length (writeEach writeStep (actionSteps (length (now sizes)) a (actionIn (now file) (now sizes) at (now nodes)))) ≤ length (now out) ⌝ }
     ensures { λ r. ⌜ Wrote (writeEach writeStep (actionSteps (length (now (sizes .entry))) a (actionIn (now (file .entry)) (now (sizes .entry)) at (now (nodes .entry))))) (now (out .entry)) (now (out .exit)) r ⌝ }
 {
     let n = sizes.len();
-    let effect = at + length_at(file, at);
     let count = byte_at(file, incoming + 2) as usize;
     let start = put_start(file, at, effect, incoming, n, a, out);
     let edges = start + put_nodes(file, sizes, nodes, count, a, &mut out[start..]);
@@ -103,8 +105,8 @@ fn put_node(file: &[u8], sizes: &[u8], node: usize, a: usize, i: u8, out: &mut [
     ensures { λ r. ⌜ Wrote (writeEach writeStep (nodeSteps (length (now (sizes .entry))) a i (nodeIn (now (file .entry)) (now (sizes .entry)) node))) (now (out .entry)) (now (out .exit)) r ⌝ }
 {
     let n = sizes.len();
-    let v = byte_at(file, node) as usize;
-    let count = byte_at(sizes, v) as usize;
+    let v = file[node] as usize;
+    let count = sizes[v] as usize;
     let mut at: usize = 0;
     let mut edge = node + 1;
     let mut d: usize = 0;

@@ -1,5 +1,4 @@
 // How many steps the actions of a task have, and how many bytes.
-use crate::count::edge_count;
 use facts::number::byte_at;
 use facts::number::offset_at;
 use facts::number::offset_within;
@@ -10,7 +9,7 @@ ghost use Rattle.facts.specs.Lists.{total};
 ghost use Rattle.taskfile.specs.WalkInPlace.{incomingPlace};
 ghost use Rattle.compilation.specs.Compile.{flat, actionSteps, edgeCount};
 ghost use Rattle.compilation.specs.CompiledLengthLaws.{stepBytes};
-ghost use Rattle.taskfile.specs.PartsInPlace.{nodesIn, actionsIn, Stood};
+ghost use Rattle.taskfile.specs.PartsInPlace.{nodesIn, actionsIn, Tests, Stood};
 
 // The bytes of an edge's step: three facts, two maps and a cost.
 const EDGE_STEP: usize = 21;
@@ -46,10 +45,25 @@ pub fn extent_of(
         let first = offset_within(first_node, a, node_at.len());
         let incoming = offset_at(incoming_at, a);
         let count = byte_at(file, incoming + 2);
-        let edges = edge_count(file, sizes, &node_at[first..], 0, count);
+        let edges = edge_count(file, sizes, &node_at[first..], count);
         steps += 2 + edges;
         bytes += START_AND_END + (incoming - at) + EDGE_STEP * edges;
         a += 1;
     }
     Extent { steps, bytes }
+}
+
+// The edges of the first `count` nodes at these offsets: one for each value of a node's variable.
+fn edge_count(file: &[u8], sizes: &[u8], nodes: &[usize], count: u8) -> usize
+    requires { ⌜ ((j : ℕ) → j < count → Tests (now file) (now sizes) (getD (now nodes) j 0)) ⌝ }
+    ensures { λ r. ⌜ (r ≡ total edgeCount (nodesIn (now (file .entry)) (now (sizes .entry)) (now (nodes .entry)) 0 count)) × (r ≤ 255 * count) ⌝ }
+{
+    let mut edges: usize = 0;
+    let mut j: u8 = 0;
+    while j < count {
+        let variable = file[offset_at(nodes, j as usize)] as usize;
+        edges += sizes[variable] as usize;
+        j += 1;
+    }
+    edges
 }

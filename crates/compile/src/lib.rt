@@ -9,6 +9,7 @@ mod step;
 use facts::Refusal;
 use length::extent_of;
 use taskfile::Counted;
+use taskfile::Task;
 ghost use mathlib.Core.Path.{_≡_};
 ghost use lib.ListN.{length};
 ghost use Rattle.taskfile.specs.Index.{Ready};
@@ -25,7 +26,7 @@ pub fn compile(file: &[u8], out: &mut [u8]) -> Compiled
     ensures { λ r. ⌜ compiledAnswer r ≡ compileFile (now (file .entry)) (length (now (out .entry))) ⌝ }
     ensures { λ r. ⌜ now (out .exit) ≡ compiledBuffer (now (file .entry)) (now (out .entry)) ⌝ }
 {
-    let mut starts = [0; 32];
+    let mut starts = [0; Task::PLACES];
     let mut firsts = [0; 32];
     let mut nodes = [0; 64];
     let counted = taskfile::index_in(file, &mut starts, &mut firsts, &mut nodes);
@@ -54,19 +55,20 @@ fn compile_in(
     let last = 1 + variables;
     let sizes = &file[1..last];
     let action_at = &starts[..actions];
-    let mut incoming = [0; 32];
-    count::note_incoming(file, action_at, &mut incoming);
-    let extent = extent_of(file, sizes, action_at, &incoming, firsts, nodes);
+    let effect_at = &starts[Task::EFFECTS..Task::INCOMING];
+    let incoming_at = &starts[Task::INCOMING..Task::PLACES];
+    let extent = extent_of(file, sizes, action_at, incoming_at, firsts, nodes);
     let needed = head::head_length(file, variables, actions) + extent.bytes;
     if out.len() < needed {
         return Compiled::Refused(Refusal::Short(needed));
     }
-    let at = head::put_head(file, variables, action_at, &incoming, extent.steps, out);
+    let at = head::put_head(file, variables, action_at, incoming_at, extent.steps, out);
     let written = action::put_actions(
         file,
         sizes,
         action_at,
-        &incoming,
+        effect_at,
+        incoming_at,
         firsts,
         nodes,
         &mut out[at..],

@@ -34,7 +34,7 @@ pub enum Costed {
 pub fn check(file: &[u8]) -> Checked
     ensures { λ r. ⌜ checkedAnswer r ≡ checkTask (now (file .entry)) ⌝ }
 {
-    let mut starts = [0; 32];
+    let mut starts = [0; Task::PLACES];
     let mut firsts = [0; 32];
     let mut nodes = [0; 64];
     let counted = taskfile::index_in(file, &mut starts, &mut firsts, &mut nodes);
@@ -48,7 +48,7 @@ pub fn check(file: &[u8]) -> Checked
 pub fn cost(file: &[u8], action: usize, state: &[u8]) -> Costed
     ensures { λ r. ⌜ costedAnswer r ≡ costTask (now (file .entry)) action (now (state .entry)) ⌝ }
 {
-    let mut starts = [0; 32];
+    let mut starts = [0; Task::PLACES];
     let mut firsts = [0; 32];
     let mut nodes = [0; 64];
     let counted = taskfile::index_in(file, &mut starts, &mut firsts, &mut nodes);
@@ -102,7 +102,7 @@ fn cost_in(
 pub fn relaxed_cost(file: &[u8], action: usize, sets: &[u8]) -> Costed
     ensures { λ r. ⌜ costedAnswer r ≡ relaxedTask (now (file .entry)) action (now (sets .entry)) ⌝ }
 {
-    let mut starts = [0; 32];
+    let mut starts = [0; Task::PLACES];
     let mut firsts = [0; 32];
     let mut nodes = [0; 64];
     let counted = taskfile::index_in(file, &mut starts, &mut firsts, &mut nodes);
@@ -127,7 +127,7 @@ pub fn relaxed_cost(file: &[u8], action: usize, sets: &[u8]) -> Costed
 pub fn run(file: &[u8], list: &[u16]) -> Ran
     ensures { λ r. ⌜ ranAnswer r ≡ runTask (now (file .entry)) (now (list .entry)) ⌝ }
 {
-    let mut starts = [0; 32];
+    let mut starts = [0; Task::PLACES];
     let mut firsts = [0; 32];
     let mut nodes = [0; 64];
     let counted = taskfile::index_in(file, &mut starts, &mut firsts, &mut nodes);
@@ -172,7 +172,7 @@ fn run_in(
 pub fn estimate(file: &[u8], state: &[u8]) -> Estimated
     ensures { λ r. ⌜ estimatedAnswer r ≡ estimateTask (now (file .entry)) (now (state .entry)) ⌝ }
 {
-    let mut starts = [0; 32];
+    let mut starts = [0; Task::PLACES];
     let mut firsts = [0; 32];
     let mut nodes = [0; 64];
     let counted = taskfile::index_in(file, &mut starts, &mut firsts, &mut nodes);

@@ -3,12 +3,14 @@ use mathlib.Core.Path.{_≡_}
 use Prim.Native.Nat.{ℕ, zero, suc, _+_, _<_}
 use mathlib.Core.List.{List}
 use lib.Dec.{ltb}
-use lib.ListN.{length, getD, take}
+use lib.ListN.{length, getD, set, take}
 use Rattle.facts.specs.Read.{Read, accepted, check, withValue, _>>=_}
 use Rattle.facts.specs.Lists.{total, upFrom, At}
+use Rattle.facts.specs.Partial.{pastPartial}
 use Rattle.facts.specs.Fields.{each, nextOf}
 use Rattle.taskfile.specs.Task.{Node, Action, Task, maxNodes}
 use Rattle.taskfile.specs.TaskFile.{edgeBytes, readNode, readNodes, readDiagram, readAction, readActions, readTask}
+use Rattle.taskfile.specs.WalkInPlace.{incomingPlace}
 
 -- ---- the variables along the edges, by a row that has the variable of each node by its number
 
@@ -32,7 +34,7 @@ module _ (f sizes offsets levels : List ℕ) where
     _ ← targetsRise f levels (getD f (getD offsets j 0) 0) (getD sizes (getD f (getD offsets j 0) 0) 0) (getD offsets j 0 + 1)
     nodesRise (suc j) count
 
--- `levels` has the variable of each of m nodes that begin at these offsets, by its number
+-- `levels` has the variable of each of m nodes that begin at these offsets, by its number, and the terminal's for each number past them
 pub record Levels (f : List ℕ) (m : ℕ) (offsets levels : List ℕ) : Type 0 where
   pub own : (j : ℕ) → j < m → getD levels (1 + j) terminalLevel ≡ getD f (getD offsets j 0) 0
   pub terminal : (k : ℕ) → m < k → getD levels k terminalLevel ≡ terminalLevel
@@ -76,6 +78,25 @@ pub record Lies (f sizes : List ℕ) (x : Action) (at first : ℕ) (nodes : List
   pub next : ℕ
   pub action : readAction f sizes left at ≡ accepted (x, next)
   pub node : (j : ℕ) (nd : Node) → At (x .nodes) j nd → (end : ℕ) × (readNode f sizes (length (x .nodes)) (suc j) (getD nodes (first + j) 0) ≡ accepted (nd, end))
+
+-- The row of places: the offset of each action, and from these entries on where its effect and its incoming weight stand; and how long the row is.
+abbrev pub effectsFrom : ℕ
+effectsFrom = 32
+
+abbrev pub incomingFrom : ℕ
+incomingFrom = 64
+
+abbrev pub placesLong : ℕ
+placesLong = 96
+
+-- the row with the places of effect and incoming weight of action a, which begins at an offset
+abbrev pub frontNoted : List ℕ → ℕ → ℕ → List ℕ → List ℕ
+frontNoted f at a places = set (set places (effectsFrom + a) (pastPartial f at)) (incomingFrom + a) (incomingPlace f at)
+
+-- the row has them for each of the first `count` actions
+pub record Fronts (f : List ℕ) (count : ℕ) (places : List ℕ) : Type 0 where
+  pub effect : (a : ℕ) → a < count → getD places (effectsFrom + a) 0 ≡ pastPartial f (getD places a 0)
+  pub incoming : (a : ℕ) → a < count → getD places (incomingFrom + a) 0 ≡ incomingPlace f (getD places a 0)
 
 -- how many nodes the actions before number a have
 abbrev pub nodesBefore : List Action → ℕ → ℕ

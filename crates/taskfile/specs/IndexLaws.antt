@@ -2,20 +2,25 @@
 use mathlib.Core.Path.{_≡_, refl, sym, ap, ap₂, _∙_, subst}
 use mathlib.Core.Logic.{_⊎_, inl, inr}
 use Prim.Native.Nat.{ℕ, zero, suc, _+_, _-_, _≤_, _<_}
-use native.Mathlib.Nat.{suc-add, zero-add, sub-zero}
+use native.Mathlib.Nat.{suc-add, zero-add, sub-zero, lt-of-not-le}
+use native.Mathlib.Decide.{decLe}
 use native.Mathlib.Omega.{arith}
 use mathlib.Core.List.{List, [], _∷_, _++_}
-use lib.ListN.{length, getD, set}
+use lib.ListN.{length, getD, set, length-set}
 use lib.Seq.{take-append-le, take-at, getD-set-same, getD-set-other}
 use Rattle.facts.specs.Read.{Read, accepted, refused, withValue, _>>=_}
 use Rattle.facts.specs.ReadLaws.{not-refused, through, made, not-made, value-of, next-of}
 use Rattle.facts.specs.Lists.{total, At, here, there}
 use Rattle.facts.specs.ListLaws.{at-none, at-length}
-use Rattle.facts.specs.Fields.{nextOf, Operator, readOperator}
-use Rattle.taskfile.specs.Task.{Node, Action, maxNodes}
+use Rattle.facts.specs.Partial.{Partial, pastPartial}
+use Rattle.facts.specs.Fields.{nextOf, readPartial, Operator, readOperator}
+use Rattle.facts.specs.InPlaceLaws.{past-read}
+use Rattle.facts.specs.PartialReadLaws.{partial-read}
+use Rattle.taskfile.specs.Task.{Node, Action, maxActions, maxNodes}
 use Rattle.taskfile.specs.TaskFile.{readDiagram, readAction, readActions}
 use Rattle.taskfile.specs.TaskReadLaws.{action-read, action-nodes}
-use Rattle.taskfile.specs.InPlace.{diagramAt, Placed, actionAt, Action-placed, Lies, nodesBefore, Listed}
+use Rattle.taskfile.specs.InPlace.{diagramAt, Placed, actionAt, Action-placed, Lies, effectsFrom, incomingFrom, placesLong, frontNoted, Fronts, nodesBefore, Listed}
+use Rattle.taskfile.specs.WalkInPlace.{incomingPlace}
 
 -- the number of nodes of an action
 abbrev size : Action → ℕ
@@ -133,6 +138,61 @@ module _ (f sizes : List ℕ) where
       let k : count ≡ a + suc (count - suc a) = omega arith in
       ap (λ (j : ℕ). readActions f sizes j left at) k ∙ actions-after a (suc (count - suc a)) left at h ∙ rw g
 
+-- ---- where effects and incoming weights stand
+
+-- past a partial state
+pub past-at : (f sizes : List ℕ) (at : ℕ) {e : ℕ} → nextOf (readPartial f sizes at) ≡ accepted e → e ≡ pastPartial f at
+past-at f sizes at h =
+    let m = made (λ (p : Partial × ℕ). p .1) (readPartial f sizes at) h in
+    let r = partial-read f sizes at (m .answer) in
+    sym (m .value) ∙ sym (past-read f at (r .same) (r .next))
+
+-- past two
+pub past-both : (f : List ℕ) (at : ℕ) {effect e : ℕ} → effect ≡ pastPartial f at → e ≡ pastPartial f effect → e ≡ incomingPlace f at
+unfolding incomingPlace
+past-both f at h g = g ∙ ap (pastPartial f) h
+
+module _ (f places : List ℕ) (a at : ℕ) (few : a < maxActions) where
+  -- no other entry changes
+  front-other : (k : ℕ) → (k ≡ effectsFrom + a → ⊥) → (k ≡ incomingFrom + a → ⊥) → getD (frontNoted f at a places) k 0 ≡ getD places k 0
+  front-other k h g = getD-set-other (set places (effectsFrom + a) (pastPartial f at)) (incomingFrom + a) k (incomingPlace f at) 0 g ∙ getD-set-other places (effectsFrom + a) k (pastPartial f at) 0 h
+
+  -- above all no action's offset
+  pub front-keeps : (b : ℕ) → b < maxActions → getD (frontNoted f at a places) b 0 ≡ getD places b 0
+  front-keeps b l = front-other b (λ q. omega (arith, l, q)) (λ q. omega (arith, l, q))
+
+  module _ (long : placesLong ≤ length places) where
+    front-effect : getD (frontNoted f at a places) (effectsFrom + a) 0 ≡ pastPartial f at
+    front-effect = getD-set-other (set places (effectsFrom + a) (pastPartial f at)) (incomingFrom + a) (effectsFrom + a) (incomingPlace f at) 0 (λ q. omega (arith, q)) ∙ getD-set-same places (effectsFrom + a) (pastPartial f at) 0 (omega (arith, few, long))
+
+    front-incoming : getD (frontNoted f at a places) (incomingFrom + a) 0 ≡ incomingPlace f at
+    front-incoming = getD-set-same (set places (effectsFrom + a) (pastPartial f at)) (incomingFrom + a) (incomingPlace f at) 0 (omega (arith, few, long, length-set places (effectsFrom + a) (pastPartial f at)))
+
+pub fronts-none : {f places : List ℕ} → Fronts f 0 places
+fronts-none = record { effect = λ a l. absurd (omega arith); incoming = λ a l. absurd (omega arith) }
+
+-- those of one action more are noted, once it is noted where it starts
+pub fronts-more : {f places : List ℕ} {a : ℕ} (at : ℕ) → Fronts f a places → a < maxActions → placesLong ≤ length places → Fronts f (a + 1) (frontNoted f at a (set places a at))
+fronts-more {f} {places} {a} at h few long = record {
+  effect = λ b l. elim (decLe a b) [
+    | yes g ↦ let same : b ≡ a = omega (arith, g, l) in rw same (front-effect f (set places a at) a at few there ∙ ap (pastPartial f) (sym own))
+    | no g ↦ let less = lt-of-not-le g in kept (effectsFrom + b) (λ q. omega (arith, few, q)) (λ q. omega (arith, less, q)) (λ q. omega (arith, few, less, q)) ∙ h .effect b less ∙ ap (pastPartial f) (sym (kept b (λ q. omega (arith, less, q)) (λ q. omega (arith, less, few, q)) (λ q. omega (arith, less, few, q))))
+  ];
+  incoming = λ b l. elim (decLe a b) [
+    | yes g ↦ let same : b ≡ a = omega (arith, g, l) in rw same (front-incoming f (set places a at) a at few there ∙ ap (incomingPlace f) (sym own))
+    | no g ↦ let less = lt-of-not-le g in kept (incomingFrom + b) (λ q. omega (arith, few, q)) (λ q. omega (arith, few, less, q)) (λ q. omega (arith, less, q)) ∙ h .incoming b less ∙ ap (incomingPlace f) (sym (kept b (λ q. omega (arith, less, q)) (λ q. omega (arith, less, few, q)) (λ q. omega (arith, less, few, q))))
+  ];
+}
+  where
+    there : placesLong ≤ length (set places a at)
+    there = omega (arith, long, length-set places a at)
+
+    kept : (k : ℕ) → (k ≡ a → ⊥) → (k ≡ effectsFrom + a → ⊥) → (k ≡ incomingFrom + a → ⊥) → getD (frontNoted f at a (set places a at)) k 0 ≡ getD places k 0
+    kept k q r s = front-other f (set places a at) a at few k r s ∙ getD-set-other places a k at 0 q
+
+    own : getD (frontNoted f at a (set places a at)) a 0 ≡ at
+    own = front-keeps f (set places a at) a at few a few ∙ getD-set-same places a at 0 (omega (arith, few, long))
+
 -- ---- the pass over the actions: a of them are read, up to an offset, and have `used` nodes
 
 pub record Going (f sizes : List ℕ) (a from at used : ℕ) (actions firsts nodes : List ℕ) : Type 0 where
@@ -189,6 +249,16 @@ module _ {f sizes : List ℕ} {a from at used : ℕ} {actions firsts nodes : Lis
             sym (ap (total size) (take-at (g .done) (x ∷ []) a count-is) ∙ g .uses),
           ))
     ];
+  }
+
+  -- entries behind those of the actions may change
+  pub going-kept : {actions′ : List ℕ} → ((b : ℕ) → b < a → getD actions′ b 0 ≡ getD actions b 0) → Going f sizes a from at used actions′ firsts nodes
+  going-kept {actions′} h = record {
+    done = g .done;
+    reads = g .reads;
+    uses = g .uses;
+    within = g .within;
+    lies = λ b x i. rw (h b (omega (arith, at-length i, count-is))) (g .lies b x i);
   }
 
   -- one more, by what a reader knows that goes past it

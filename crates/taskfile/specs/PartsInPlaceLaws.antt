@@ -4,12 +4,12 @@ use Prim.Native.Nat.{ℕ, zero, suc, _+_, _*_, _≤_, _<_}
 use native.Mathlib.Omega.{arith}
 use mathlib.Core.List.{List, [], _∷_}
 use lib.ListN.{length, getD, take, drop}
-use lib.Seq.{getD-drop}
+use lib.Seq.{getD-take, getD-drop}
 use Rattle.facts.specs.Read.{accepted}
 use Rattle.facts.specs.Lists.{At, here, there}
 use Rattle.facts.specs.ListLaws.{total-at}
 use Rattle.facts.specs.BytesLaws.{number-one}
-use Rattle.facts.specs.Partial.{Partial}
+use Rattle.facts.specs.Partial.{Partial, pastPartial}
 use Rattle.facts.specs.Fields.{wordAt}
 use Rattle.facts.specs.InPlaceLaws.{word-is}
 use Rattle.facts.specs.PartialReadLaws.{Partial-read, partial-read}
@@ -17,7 +17,7 @@ use Rattle.facts.specs.HeadLaws.{head-read}
 use Rattle.taskfile.specs.declared.Task.{Task as Index}
 use Rattle.taskfile.specs.Task.{Edge, Node, Action, Task, maxNodes}
 use Rattle.taskfile.specs.TaskFile.{edgeBytes, readTask}
-use Rattle.taskfile.specs.InPlace.{Lies, Located}
+use Rattle.taskfile.specs.InPlace.{Lies, effectsFrom, incomingFrom, Located}
 use Rattle.taskfile.specs.Index.{Ready}
 use Rattle.taskfile.specs.WalkInPlace.{incomingPlace, nodeCount}
 use Rattle.taskfile.specs.PartsInPlace.{edgeIn, edgesIn, nodeIn, nodesIn, actionIn, actionsIn, Stands, Stood}
@@ -156,6 +156,17 @@ module _ (f : List ℕ) {i : Index} (ready : Ready f i) where
       ∙ actions-are f (t .sizes) begins (i .firsts) (i .nodes) 0 (t .actions) (λ a q x h e.
       let same : q ≡ a = omega arith in
       rw same (action-here f (located .lies t reads a x h)))
+
+  -- Where each effect and each incoming weight stands, in the parts of the row behind the actions' offsets.
+  pub effects-noted : {k : ℕ} → i .actions ≤ k → (a : ℕ) → a < length begins → getD (take k (drop effectsFrom (i .starts))) a 0 ≡ pastPartial f (getD begins a 0)
+  effects-noted {k} few a h =
+      let l : a < i .actions = omega (arith, h, starts-count f ready, task-there f ready .actions) in
+      getD-take k (drop effectsFrom (i .starts)) a 0 (omega (arith, l, few)) ∙ getD-drop effectsFrom (i .starts) a 0 ∙ ready .fronts .effect a l ∙ ap (pastPartial f) (sym (getD-take (i .actions) (i .starts) a 0 l))
+
+  pub incoming-noted : {k : ℕ} → i .actions ≤ k → (a : ℕ) → a < length begins → getD (take k (drop incomingFrom (i .starts))) a 0 ≡ incomingPlace f (getD begins a 0)
+  incoming-noted {k} few a h =
+      let l : a < i .actions = omega (arith, h, starts-count f ready, task-there f ready .actions) in
+      getD-take k (drop incomingFrom (i .starts)) a 0 (omega (arith, l, few)) ∙ getD-drop incomingFrom (i .starts) a 0 ∙ ready .fronts .incoming a l ∙ ap (incomingPlace f) (sym (getD-take (i .actions) (i .starts) a 0 l))
 
   -- The goal stands in the file.
   pub goal-stands : Stands f (i .variables) (1 + 2 * i .variables)

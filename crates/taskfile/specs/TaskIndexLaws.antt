@@ -12,7 +12,7 @@ use Rattle.facts.specs.HeadLaws.{headed, headed-sizes, no-head}
 use Rattle.taskfile.specs.Task.{Action, Task, maxActions, maxNodes}
 use Rattle.taskfile.specs.TaskFile.{readActions, readTask, checkTask}
 use Rattle.taskfile.specs.TaskReadLaws.{task-read}
-use Rattle.taskfile.specs.InPlace.{Lies, Listed, taskAt, Located}
+use Rattle.taskfile.specs.InPlace.{Lies, placesLong, Fronts, Listed, taskAt, Located}
 use Rattle.taskfile.specs.Index.{Ready, indexAnswer, Rows}
 use Rattle.taskfile.specs.IndexLaws.{actions-count}
 
@@ -21,14 +21,6 @@ abbrev counts : Task → ℕ × ℕ
 counts t = (length (t .sizes), length (t .actions))
 
 module _ (f : List ℕ) where
-  -- what is refused has no actions to be found
-  pub located-none : {n p : ℕ} (actions firsts nodes : List ℕ) → taskAt f ≡ refused n p → Located f actions firsts nodes
-  unfolding taskAt
-  located-none actions firsts nodes h = record {
-    lies = λ t r a x i. absurd (not-refused (sym (not-made counts (readTask f) h) ∙ r));
-    first-is = λ t r a x i. absurd (not-refused (sym (not-made counts (readTask f) h) ∙ r));
-  }
-
   -- the check alone
   pub check-refused : {n p : ℕ} → taskAt f ≡ refused n p → checkTask f ≡ refused n p
   unfolding taskAt checkTask
@@ -40,34 +32,42 @@ module _ (f : List ℕ) where
 
   -- ---- the index in lent rows
 
-  pub short-starts : {starts : ℕ} (firsts nodes : ℕ) → starts < maxActions → indexAnswer f starts firsts nodes ≡ refused 7 maxActions
-  unfolding indexAnswer
-  short-starts {starts} firsts nodes l = rw (lt-leb maxActions starts l)
+  -- what is refused has no index
+  pub rows-none : {n p : ℕ} {starts firsts nodes : List ℕ} → Rows f (refused n p) starts firsts nodes
+  rows-none = record { located = λ h. absurd (not-refused h); fronts = λ h. absurd (not-refused h) }
 
-  pub short-firsts : {starts firsts : ℕ} (nodes : ℕ) → maxActions ≤ starts → firsts < maxActions → indexAnswer f starts firsts nodes ≡ refused 7 maxActions
-  unfolding indexAnswer
-  short-firsts {starts} {firsts} nodes s l = rw (le-leb maxActions starts s, lt-leb maxActions firsts l)
+  -- what is accepted has this one
+  pub rows-good : {n k : ℕ} {starts firsts nodes : List ℕ} → Located f starts firsts nodes → Fronts f k starts → Rows f (accepted (n, k)) starts firsts nodes
+  rows-good {starts = starts} l g = record { located = λ h. l; fronts = λ h. subst (λ (k : ℕ). Fronts f k starts) (next-of h) g }
 
-  pub short-nodes : {starts firsts nodes : ℕ} → maxActions ≤ starts → maxActions ≤ firsts → nodes < maxNodes → indexAnswer f starts firsts nodes ≡ refused 7 maxNodes
+  pub short-starts : {starts : ℕ} (firsts nodes : ℕ) → starts < placesLong → indexAnswer f starts firsts nodes ≡ refused 7 placesLong
   unfolding indexAnswer
-  short-nodes {starts} {firsts} {nodes} s t l = rw (le-leb maxActions starts s, le-leb maxActions firsts t, lt-leb maxNodes nodes l)
+  short-starts {starts} firsts nodes l = rw (lt-leb placesLong starts l)
 
-  pub long-rows : {starts firsts nodes : ℕ} → maxActions ≤ starts → maxActions ≤ firsts → maxNodes ≤ nodes → indexAnswer f starts firsts nodes ≡ taskAt f
+  pub short-firsts : {starts firsts : ℕ} (nodes : ℕ) → placesLong ≤ starts → firsts < maxActions → indexAnswer f starts firsts nodes ≡ refused 7 maxActions
   unfolding indexAnswer
-  long-rows {starts} {firsts} {nodes} s t l = rw (le-leb maxActions starts s, le-leb maxActions firsts t, le-leb maxNodes nodes l)
+  short-firsts {starts} {firsts} nodes s l = rw (le-leb placesLong starts s, lt-leb maxActions firsts l)
+
+  pub short-nodes : {starts firsts nodes : ℕ} → placesLong ≤ starts → maxActions ≤ firsts → nodes < maxNodes → indexAnswer f starts firsts nodes ≡ refused 7 maxNodes
+  unfolding indexAnswer
+  short-nodes {starts} {firsts} {nodes} s t l = rw (le-leb placesLong starts s, le-leb maxActions firsts t, lt-leb maxNodes nodes l)
+
+  pub long-rows : {starts firsts nodes : ℕ} → placesLong ≤ starts → maxActions ≤ firsts → maxNodes ≤ nodes → indexAnswer f starts firsts nodes ≡ taskAt f
+  unfolding indexAnswer
+  long-rows {starts} {firsts} {nodes} s t l = rw (le-leb placesLong starts s, le-leb maxActions firsts t, le-leb maxNodes nodes l)
 
   -- rows that are as long as they have to be tell what the check tells
-  pub index-ready : {answer : Read (ℕ × ℕ)} {n k : ℕ} {starts firsts nodes : List ℕ} → answer ≡ indexAnswer f maxActions maxActions maxNodes → Rows f answer starts firsts nodes
-      → answer ≡ accepted (n, k) → length starts ≡ maxActions → length firsts ≡ maxActions → length nodes ≡ maxNodes
+  pub index-ready : {answer : Read (ℕ × ℕ)} {n k : ℕ} {starts firsts nodes : List ℕ} → answer ≡ indexAnswer f placesLong maxActions maxNodes → Rows f answer starts firsts nodes
+      → answer ≡ accepted (n, k) → length starts ≡ placesLong → length firsts ≡ maxActions → length nodes ≡ maxNodes
       → Ready f (record { variables = n; actions = k; starts = starts; firsts = firsts; nodes = nodes })
   unfolding indexAnswer
-  index-ready h rows is s t l = record { counts = sym h ∙ is; located = rows .located is; starts-long = s; firsts-long = t; nodes-long = l }
+  index-ready h rows is s t l = record { counts = sym h ∙ is; located = rows .located is; fronts = rows .fronts is; starts-long = s; firsts-long = t; nodes-long = l }
 
-  pub index-refused : {n p : ℕ} → indexAnswer f maxActions maxActions maxNodes ≡ refused n p → checkTask f ≡ refused n p
+  pub index-refused : {n p : ℕ} → indexAnswer f placesLong maxActions maxNodes ≡ refused n p → checkTask f ≡ refused n p
   unfolding indexAnswer
   index-refused h = check-refused h
 
-  pub index-accepted : {n k : ℕ} → indexAnswer f maxActions maxActions maxNodes ≡ accepted (n, k) → checkTask f ≡ accepted tt
+  pub index-accepted : {n k : ℕ} → indexAnswer f placesLong maxActions maxNodes ≡ accepted (n, k) → checkTask f ≡ accepted tt
   unfolding indexAnswer
   index-accepted h = check-accepted h
 

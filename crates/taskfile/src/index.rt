@@ -7,25 +7,28 @@ use facts::Field;
 use facts::Headed;
 use facts::Past;
 use facts::Refusal;
+use facts::number::read_word;
+use facts::partial::partial_end;
 ghost use mathlib.Core.Path.{_≡_};
-ghost use Prim.Native.Nat.{_-_, _≤_};
+ghost use Prim.Native.Nat.{ℕ, _-_, _≤_, _<_};
 ghost use lib.ListN.{length};
 ghost use Rattle.facts.specs.Read.{accepted};
 ghost use Rattle.facts.specs.Answers.{pastAnswer};
-ghost use Rattle.facts.specs.Fields.{nextOf, headAt};
+ghost use Rattle.facts.specs.Fields.{nextOf, readOperator, headAt};
 ghost use Rattle.taskfile.specs.TaskFile.{readActions};
 ghost use Rattle.taskfile.specs.Answers.{drawnAnswer, countedAnswer};
-ghost use Rattle.taskfile.specs.InPlace.{actionAt, Action-placed, Listed, taskAt, Located};
+ghost use Rattle.taskfile.specs.InPlace.{actionAt, Action-placed, frontNoted, Fronts, Listed, taskAt};
+ghost use Rattle.taskfile.specs.Index.{Rows};
 
-// How many variables and actions a task file has; where each action starts, which of all nodes is its first, and where each node starts.
+// How many variables and actions a task file has; where each action, its effect and its incoming weight stand, which of all nodes is its first, and where each node starts.
 pub fn index_into(
     file: &[u8],
     action_at: &mut [usize],
     first_node: &mut [usize],
     node_at: &mut [usize],
 ) -> Counted
-    requires { ⌜ (32 ≤ length (now «action_at»)) × (32 ≤ length (now «first_node»)) × (64 ≤ length (now «node_at»)) ⌝ }
-    ensures { λ r. ⌜ (countedAnswer r ≡ taskAt (now (file .entry))) × Located (now (file .entry)) (now («action_at» .exit)) (now («first_node» .exit)) (now («node_at» .exit)) ⌝ }
+    requires { ⌜ (96 ≤ length (now «action_at»)) × (32 ≤ length (now «first_node»)) × (64 ≤ length (now «node_at»)) ⌝ }
+    ensures { λ r. ⌜ (countedAnswer r ≡ taskAt (now (file .entry))) × Rows (now (file .entry)) (countedAnswer r) (now («action_at» .exit)) (now («first_node» .exit)) (now («node_at» .exit)) ⌝ }
 {
     match facts::head::read_head(file, Task::MAX_VARIABLES, Task::MAX_VALUES) {
         Headed::Refused(why) => Counted::Refused(why),
@@ -44,8 +47,8 @@ fn index_actions(
     first_node: &mut [usize],
     node_at: &mut [usize],
 ) -> Counted
-    requires { ⌜ (headAt (now file) 24 8 ≡ accepted (variables, at)) × (32 ≤ length (now «action_at»)) × (32 ≤ length (now «first_node»)) × (64 ≤ length (now «node_at»)) ⌝ }
-    ensures { λ r. ⌜ (countedAnswer r ≡ taskAt (now (file .entry))) × Located (now (file .entry)) (now («action_at» .exit)) (now («first_node» .exit)) (now («node_at» .exit)) ⌝ }
+    requires { ⌜ (headAt (now file) 24 8 ≡ accepted (variables, at)) × (96 ≤ length (now «action_at»)) × (32 ≤ length (now «first_node»)) × (64 ≤ length (now «node_at»)) ⌝ }
+    ensures { λ r. ⌜ (countedAnswer r ≡ taskAt (now (file .entry))) × Rows (now (file .entry)) (countedAnswer r) (now («action_at» .exit)) (now («first_node» .exit)) (now («node_at» .exit)) ⌝ }
 {
     match facts::head::read_count(file, at, 1, Task::MAX_ACTIONS) {
         Field::Refused(why) => Counted::Refused(why),
@@ -73,7 +76,7 @@ fn index_actions(
     }
 }
 
-// Past the actions, noting where each starts and which node is its first.
+// Past the actions, noting where each and its parts stand and which node is its first.
 fn actions_end(
     file: &[u8],
     from: usize,
@@ -83,8 +86,9 @@ fn actions_end(
     first_node: &mut [usize],
     node_at: &mut [usize],
 ) -> Past
-    requires { ⌜ (count ≤ length (now «action_at»)) × (count ≤ length (now «first_node»)) × (64 ≤ length (now «node_at»)) × (length (now sizes) ≤ 24) ⌝ }
+    requires { ⌜ (count ≤ 32) × (96 ≤ length (now «action_at»)) × (count ≤ length (now «first_node»)) × (64 ≤ length (now «node_at»)) × (length (now sizes) ≤ 24) ⌝ }
     ensures { λ r. ⌜ (pastAnswer r ≡ nextOf (readActions (now (file .entry)) (now (sizes .entry)) count 64 from)) × Listed (now (file .entry)) (now (sizes .entry)) count from (now («action_at» .exit)) (now («first_node» .exit)) (now («node_at» .exit)) ⌝ }
+    ensures { λ r. ⌜ ((end : ℕ) → pastAnswer r ≡ accepted end → Fronts (now (file .entry)) count (now («action_at» .exit))) ⌝ }
 {
     let mut at = from;
     let mut used: usize = 0;
@@ -92,7 +96,7 @@ fn actions_end(
     while a < count {
         action_at[a] = at;
         first_node[a] = used;
-        match action_end(file, at, sizes, used, node_at) {
+        match action_end(file, at, sizes, a, used, action_at, node_at) {
             Drawn::Next(next, nodes) => {
                 at = next;
                 used += nodes;
@@ -106,13 +110,44 @@ fn actions_end(
     Past::Next(at)
 }
 
-// Past an action: its front, and its diagram, whose nodes are noted from index `used` on.
-fn action_end(file: &[u8], at: usize, sizes: &[u8], used: usize, node_at: &mut [usize]) -> Drawn
-    requires { ⌜ (used ≤ 64) × (64 ≤ length (now «node_at»)) × (length (now sizes) ≤ 24) ⌝ }
+// Past action a: its front, and its diagram, whose nodes are noted from index `used` on.
+fn action_end(
+    file: &[u8],
+    at: usize,
+    sizes: &[u8],
+    a: usize,
+    used: usize,
+    action_at: &mut [usize],
+    node_at: &mut [usize],
+) -> Drawn
+    requires { ⌜ (used ≤ 64) × (64 ≤ length (now «node_at»)) × (length (now sizes) ≤ 24) × (a < 32) × (96 ≤ length (now «action_at»)) ⌝ }
     ensures { λ r. ⌜ (drawnAnswer r ≡ actionAt (now (file .entry)) (now (sizes .entry)) (64 - used) at) × Action-placed (now (file .entry)) (now (sizes .entry)) (64 - used) at used (now («node_at» .entry)) (now («node_at» .exit)) ⌝ }
+    ensures { λ r. ⌜ ((p : ℕ × ℕ) → drawnAnswer r ≡ accepted p → now («action_at» .exit) ≡ frontNoted (now (file .entry)) at a (now («action_at» .entry))) ⌝ }
 {
-    match facts::partial::operator_end(file, at, sizes) {
+    match front_end(file, at, sizes, a, action_at) {
         Past::Refused(why) => Drawn::Refused(why),
         Past::Next(place) => diagram_end(file, place, sizes, used, node_at),
+    }
+}
+
+// Past the front of action a, its precondition, effect and incoming weight, noting where the last two stand.
+fn front_end(file: &[u8], at: usize, sizes: &[u8], a: usize, action_at: &mut [usize]) -> Past
+    requires { ⌜ (a < 32) × (96 ≤ length (now «action_at»)) ⌝ }
+    ensures { λ r. ⌜ pastAnswer r ≡ nextOf (readOperator (now (file .entry)) (now (sizes .entry)) at) ⌝ }
+    ensures { λ r. ⌜ ((end : ℕ) → pastAnswer r ≡ accepted end → now («action_at» .exit) ≡ frontNoted (now (file .entry)) at a (now («action_at» .entry))) ⌝ }
+{
+    match partial_end(file, at, sizes) {
+        Past::Refused(why) => Past::Refused(why),
+        Past::Next(effect) => match partial_end(file, effect, sizes) {
+            Past::Refused(why) => Past::Refused(why),
+            Past::Next(incoming) => match read_word(file, incoming) {
+                Field::Refused(why) => Past::Refused(why),
+                Field::Value(_) => {
+                    action_at[Task::EFFECTS + a] = effect;
+                    action_at[Task::INCOMING + a] = incoming;
+                    Past::Next(incoming + 2)
+                }
+            },
+        },
     }
 }

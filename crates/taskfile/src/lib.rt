@@ -10,11 +10,11 @@ ghost use lib.ListN.{length};
 ghost use Rattle.taskfile.specs.Answers.{countedAnswer};
 ghost use Rattle.taskfile.specs.Index.{indexAnswer, Rows};
 
-// A task by its index: how many variables and actions it has, where each action starts, which of all nodes is its first, and where each node starts. Code lends the rows and does not hand a `Task` on.
+// A task by its index: how many variables and actions it has; where each action starts, and then where its effect and its incoming weight stand; which of all nodes is its first, and where each node starts. Code lends the rows and does not hand a `Task` on.
 pub struct Task {
     pub variables: usize,
     pub actions: usize,
-    pub starts: [usize; 32],
+    pub starts: [usize; 96],
     pub firsts: [usize; 32],
     pub nodes: [usize; 64],
 }
@@ -31,6 +31,13 @@ impl Task {
     pub const MAX_BYTES: usize = 3826;
 
     pub const MAX_LIST: usize = 256;
+
+    // From which entries of the row `starts` on the places of effects and of incoming weights are, and how long the row is.
+    pub const EFFECTS: usize = 32;
+
+    pub const INCOMING: usize = 64;
+
+    pub const PLACES: usize = 96;
 }
 
 // Where the next field starts, and how many nodes the diagram before it has.
@@ -55,8 +62,8 @@ pub fn index_in(
     ensures { λ r. ⌜ countedAnswer r ≡ indexAnswer (now (file .entry)) (length (now (starts .entry))) (length (now (firsts .entry))) (length (now (nodes .entry))) ⌝ }
     ensures { λ r. ⌜ Rows (now (file .entry)) (countedAnswer r) (now (starts .exit)) (now (firsts .exit)) (now (nodes .exit)) ⌝ }
 {
-    if starts.len() < Task::MAX_ACTIONS as usize {
-        return Counted::Refused(Refusal::Short(Task::MAX_ACTIONS as usize));
+    if starts.len() < Task::PLACES {
+        return Counted::Refused(Refusal::Short(Task::PLACES));
     }
     if firsts.len() < Task::MAX_ACTIONS as usize {
         return Counted::Refused(Refusal::Short(Task::MAX_ACTIONS as usize));

@@ -14,8 +14,8 @@ use Rattle.probe.specs.ProbeFile.{writeProbe}
 use Rattle.compilation.specs.Compile.{probeOf}
 use Rattle.compilation.specs.StepLaws.{steps-most}
 use Rattle.compilation.specs.CompiledLengthLaws.{compiled-length}
-use Rattle.compile.specs.ExtentLaws.{incoming-noted, weighs}
-use Rattle.taskfile.specs.PartsInPlaceLaws.{actions-stood, goal-stands}
+use Rattle.compile.specs.ExtentLaws.{weighs}
+use Rattle.taskfile.specs.PartsInPlaceLaws.{actions-stood, effects-noted, incoming-noted, goal-stands}
 use Rattle.compile.specs.TaskInPlaceLaws.{steps-in-place, file-length, front-room, front-inside, steps-room, file-wrote, compile-short, compile-wrote}
 use borrow.Author.Needs.{needs}
 use native.Mathlib.Omega.{arith}
@@ -47,65 +47,61 @@ starts-long c = length-take-le (c .args .actions) (now (c .args .starts)) (few c
 limits : (c : tie.Start) → (length (take (1 + c .args .variables - 1) (drop 1 (now (c .args .file)))) ≤ 24) × (length (take (c .args .actions) (now (c .args .starts))) ≤ 32)
 limits c = (omega (arith, ap length (sizes-are c), task c .variables, begins c .variables), omega (arith, starts-long c, begins c .actions))
 
--- an action begins within the file
-begin : (c : tie.Start) (a : ℕ) → a < length (take (c .args .actions) (now (c .args .starts))) → getD (take (c .args .actions) (now (c .args .starts))) a 0 ≤ length (now (c .args .file))
-begin c a h = omega (arith, actions-stood (now (c .args .file)) (c .pre) (sizes-are c) a h .pre .fits)
-
--- where each incoming weight stands is noted
-noted : (c : tie.After-note-incoming) → let a = c .before .before .before .before .before .before .before .before .before .args in (k : ℕ) → k < length (take (a .actions) (now (a .starts))) → getD (c .note-incoming .last .1 .1 .0) k 0 ≡ incomingPlace (now (a .file)) (getD (take (a .actions) (now (a .starts))) k 0)
-noted c = let s = c .before .before .before .before .before .before .before .before .before in incoming-noted (now (s .args .file)) (c .note-incoming .ensures) (limits s .1) (begin s)
+-- where each incoming weight stands
+noted : (c : tie.Start) (a : ℕ) → a < length (take (c .args .actions) (now (c .args .starts))) → getD (take 32 (drop 64 (now (c .args .starts)))) a 0 ≡ incomingPlace (now (c .args .file)) (getD (take (c .args .actions) (now (c .args .starts))) a 0)
+noted c = incoming-noted (now (c .args .file)) (c .pre) (begins c .actions)
 
 extent-of-requires : tie.Need-extent-of-requires
-extent-of-requires c κs = let s = c .before .before .before .before .before .before .before .before .before .before .before in (limits s, (actions-stood (now (s .args .file)) (s .pre) (sizes-are s), noted (c .before .before)))
+extent-of-requires c κs = let s = c .before .before .before .before .before .before .before .before .before in (limits s, (actions-stood (now (s .args .file)) (s .pre) (sizes-are s), noted s))
 
 head-length-requires : tie.Need-head-length-requires
-head-length-requires c κs = let b = begins (c .before .before .before .before .before .before .before .before .before .before .before .before) in (b .variables, b .actions, b .fits)
+head-length-requires c κs = let b = begins (c .before .before .before .before .before .before .before .before .before .before) in (b .variables, b .actions, b .fits)
 
 -- the length that is needed
-needed-is : (c : tie.After-head-length) → c .head-length .result + c .before .extent-of .result .bytes ≡ length (probe (c .before .before .before .before .before .before .before .before .before .before .before .before .before))
-needed-is c = let s = c .before .before .before .before .before .before .before .before .before .before .before .before .before in file-length (now (s .args .file)) (s .pre) (sizes-are s) (c .head-length .ensures .0) (c .before .extent-of .ensures .1)
+needed-is : (c : tie.After-head-length) → c .head-length .result + c .before .extent-of .result .bytes ≡ length (probe (c .before .before .before .before .before .before .before .before .before .before .before))
+needed-is c = let s = c .before .before .before .before .before .before .before .before .before .before .before in file-length (now (s .args .file)) (s .pre) (sizes-are s) (c .head-length .ensures .0) (c .before .extent-of .ensures .1)
 
 add-needed : tie.Need-add-needed
-add-needed c = let s = c .before .before .before .before .before .before .before .before .before .before .before .before .before .before in omega (arith, needed-is (c .before), compiled-length (now (s .args .file)) (task s .reads))
+add-needed c = let s = c .before .before .before .before .before .before .before .before .before .before .before .before in omega (arith, needed-is (c .before), compiled-length (now (s .args .file)) (task s .reads))
 
 returns : tie.Need-returns
 returns c =
-    let s = c .before .before .before .before .before .before .before .before .before .before .before .before .before .before .before in
+    let s = c .before .before .before .before .before .before .before .before .before .before .before .before .before in
     let r = compile-short (now (s .args .file)) (task s .reads) (now (s .args .out)) (needed-is (c .before .before)) (c .if1 .taken) in
     (sym (r .0), sym (r .1))
 
 -- there is room for it
-room : (c : tie.Else1) → let s = c .before .before .before .before .before .before .before .before .before .before .before .before .before .before .before in length (probe s) ≤ length (now (s .args .out))
+room : (c : tie.Else1) → let s = c .before .before .before .before .before .before .before .before .before .before .before .before .before in length (probe s) ≤ length (now (s .args .out))
 room c = omega (arith, needed-is (c .before .before), c .if1 .left)
 
 put-head-requires : tie.Need-put-head-requires
 put-head-requires c κs =
-    let s = c .before .before .before .before .before .before .before .before .before .before .before .before .before .before .before .before .before in
+    let s = c .before .before .before .before .before .before .before .before .before .before .before .before .before .before in
     let f = now (s .args .file) in
     let r = task s .reads in
-    let count = c .before .before .before .before .before .extent-of .ensures .0 in (
+    let count = c .before .before .before .before .extent-of .ensures .0 in (
       (begins s .variables, limits s .1, omega (arith, count, ap length (steps-in-place f (s .pre) (sizes-are s)), steps-most (task s .task) (task-wf f r) (task-limits f r)), goal-stands f (s .pre)),
-      ((λ a l. weighs f (actions-stood f (s .pre) (sizes-are s) a l) (noted (c .before .before .before .before .before .before .before .before) a l)), front-room f (s .pre) (sizes-are s) count (room (c .before .before))),
+      ((λ a l. weighs f (actions-stood f (s .pre) (sizes-are s) a l) (noted s a l)), front-room f (s .pre) (sizes-are s) count (room (c .before))),
     )
 
 -- the steps begin within the buffer
 inside : (c : tie.After-put-head) → c .put-head .result ≤ length (c .put-head .last .1 .1 .1 .1 .1 .0)
-inside c = let s = c .before .before .before .before .before .before .before .before .before .before .before .before .before .before .before .before .before .before in front-inside (now (s .args .file)) (s .pre) (sizes-are s) (c .before .before .before .before .before .before .extent-of .ensures .0) (room (c .before .before .before)) (c .put-head .ensures)
+inside c = let s = c .before .before .before .before .before .before .before .before .before .before .before .before .before .before .before in front-inside (now (s .args .file)) (s .pre) (sizes-are s) (c .before .before .before .before .before .extent-of .ensures .0) (room (c .before .before)) (c .put-head .ensures)
 
 put-actions-requires : tie.Need-put-actions-requires
 put-actions-requires c κs =
-    let s = c .before .before .before .before .before .before .before .before .before .before .before .before .before .before .before .before .before .before .before .before .before .before in
+    let s = c .before .before .before .before .before .before .before .before .before .before .before .before .before .before .before .before .before .before in
     let f = now (s .args .file) in
-    (limits s, ((actions-stood f (s .pre) (sizes-are s), noted (c .before .before .before .before .before .before .before .before .before .before .before .before .before)), steps-room f (s .pre) (sizes-are s) (c .before .before .before .before .before .before .before .before .before .before .extent-of .ensures .0) (room (c .before .before .before .before .before .before .before)) (c .before .before .before .before .put-head .ensures)))
+    ((limits s .0, limits s .1, effects-noted f (s .pre) (begins s .actions)), ((actions-stood f (s .pre) (sizes-are s), noted s), steps-room f (s .pre) (sizes-are s) (c .before .before .before .before .before .before .before .before .extent-of .ensures .0) (room (c .before .before .before .before .before)) (c .before .before .before .put-head .ensures)))
 
 -- the file is written
-wrote : (c : tie.After-put-actions) → let s = c .before .before .before .before .before .before .before .before .before .before .before .before .before .before .before .before .before .before .before .before .before .before .before in let front = c .before .before .before .before .before .put-head in Wrote (probe s) (now (s .args .out)) (putMid (front .result) (length (front .last .1 .1 .1 .1 .1 .0) - front .result) (front .last .1 .1 .1 .1 .1 .0) (c .put-actions .last .1 .1 .1 .1 .1 .1 .0)) (front .result + c .put-actions .result)
-wrote c = let s = c .before .before .before .before .before .before .before .before .before .before .before .before .before .before .before .before .before .before .before .before .before .before .before in file-wrote (now (s .args .file)) (s .pre) (sizes-are s) (c .before .before .before .before .before .before .before .before .before .before .before .extent-of .ensures .0) (room (c .before .before .before .before .before .before .before .before)) (c .before .before .before .before .before .put-head .ensures) (c .put-actions .ensures)
+wrote : (c : tie.After-put-actions) → let s = c .before .before .before .before .before .before .before .before .before .before .before .before .before .before .before .before .before .before .before in let front = c .before .before .before .before .put-head in Wrote (probe s) (now (s .args .out)) (putMid (front .result) (length (front .last .1 .1 .1 .1 .1 .0) - front .result) (front .last .1 .1 .1 .1 .1 .0) (c .put-actions .last .1 .1 .1 .1 .1 .1 .1 .0)) (front .result + c .put-actions .result)
+wrote c = let s = c .before .before .before .before .before .before .before .before .before .before .before .before .before .before .before .before .before .before .before in file-wrote (now (s .args .file)) (s .pre) (sizes-are s) (c .before .before .before .before .before .before .before .before .before .extent-of .ensures .0) (room (c .before .before .before .before .before .before)) (c .before .before .before .before .put-head .ensures) (c .put-actions .ensures)
 
 returns-2 : tie.Need-returns-2
 returns-2 c =
-    let s = c .before .before .before .before .before .before .before .before .before .before .before .before .before .before .before .before .before .before .before .before .before .before .before .before .before in
-    let r = compile-wrote (now (s .args .file)) (task s .reads) (room (c .before .before .before .before .before .before .before .before .before .before)) (wrote (c .before .before)) in
+    let s = c .before .before .before .before .before .before .before .before .before .before .before .before .before .before .before .before .before .before .before .before .before in
+    let r = compile-wrote (now (s .args .file)) (task s .reads) (room (c .before .before .before .before .before .before .before .before)) (wrote (c .before .before)) in
     (sym (r .0), sym (r .1))
 
 pub compile-in-spec : {M : Type 1} → statement M
@@ -118,19 +114,20 @@ compile-in-spec =
     (λ c. omega (arith, begins (c .before .before .before .before .before) .fits))
     (λ c. sym (starts-long (c .before .before .before .before .before .before .before)))
     (λ c. search needs)
-    (λ c κs. search needs)
     (λ c. search needs)
+    (λ c. omega (arith, c .before .before .before .before .before .before .before .pre .starts-long))
+    (λ c. search needs)
+    (λ c. search needs)
+    (λ c. omega (arith, c .before .before .before .before .before .before .before .before .pre .starts-long))
     extent-of-requires
     head-length-requires
     add-needed
     returns
-    (λ c. search needs)
     put-head-requires
-    (λ c. search needs)
-    (λ c. inside (c .before .before .before))
-    (λ c. inside (c .before .before .before))
+    (λ c. inside (c .before .before))
+    (λ c. inside (c .before .before))
     (λ c. search needs)
     put-actions-requires
-    (λ c. let s = c .before .before .before .before .before .before .before .before .before .before .before .before .before .before .before .before .before .before .before .before .before .before .before .before .before in omega (arith, wrote (c .before .before) .count, compiled-length (now (s .args .file)) (task s .reads)))
+    (λ c. let s = c .before .before .before .before .before .before .before .before .before .before .before .before .before .before .before .before .before .before .before .before .before in omega (arith, wrote (c .before .before) .count, compiled-length (now (s .args .file)) (task s .reads)))
     (λ c. search needs)
     returns-2)

@@ -17,51 +17,52 @@ use Rattle.compile.proofs.action.put_actions.Statement.{statement}
 use Rattle.compile.proofs.action.put_actions.Tie as tie
 
 abbrev Inv-loop : tie.InvT-loop
-Inv-loop file sizes action-at incoming-at first-node node-at out₀ at₀ a₀ out at a =
+Inv-loop file sizes action-at effect-at incoming-at first-node node-at out₀ at₀ a₀ out at a =
     (a ≤ length action-at)
     × Going (writeEach writeStep (flat (actionSteps (length sizes)) 0 (actionsIn file sizes action-at first-node node-at 0 (length action-at)))) (actionsFrom file sizes action-at first-node node-at (length action-at) a) out₀ out at
 
 abbrev μ-loop : tie.MeasureT-loop
-μ-loop file sizes action-at incoming-at first-node node-at out₀ at₀ a₀ out at a = length action-at - a
+μ-loop file sizes action-at effect-at incoming-at first-node node-at out₀ at₀ a₀ out at a = length action-at - a
 
 -- the action's own nodes, as they are lent
 abbrev lent : tie.After-offset-within Inv-loop μ-loop → List ℕ
-lent c = let nodes = now (c .before .before .before .before .before .before .before .before .before .before .args .node-at) in take (length nodes - c .offset-within .result) (drop (c .offset-within .result) nodes)
+lent c = let nodes = now (c .before .before .before .before .before .before .before .before .before .before .before .args .node-at) in take (length nodes - c .offset-within .result) (drop (c .offset-within .result) nodes)
 
-own : (c : tie.After-offset-within Inv-loop μ-loop) → lent c ≡ drop (getD (now (c .before .before .before .before .before .before .before .before .before .before .args .first-node)) (c .before .before .loop .a) 0) (now (c .before .before .before .before .before .before .before .before .before .before .args .node-at))
-own c = own-nodes (now (c .before .before .before .before .before .before .before .before .before .before .args .node-at)) (getD (now (c .before .before .before .before .before .before .before .before .before .before .args .first-node)) (c .before .before .loop .a) 0) (c .offset-within .ensures)
+own : (c : tie.After-offset-within Inv-loop μ-loop) → lent c ≡ drop (getD (now (c .before .before .before .before .before .before .before .before .before .before .before .args .first-node)) (c .before .before .loop .a) 0) (now (c .before .before .before .before .before .before .before .before .before .before .before .args .node-at))
+own c = own-nodes (now (c .before .before .before .before .before .before .before .before .before .before .before .args .node-at)) (getD (now (c .before .before .before .before .before .before .before .before .before .before .before .args .first-node)) (c .before .before .loop .a) 0) (c .offset-within .ensures)
 
 -- what is left from action a on
 abbrev left : tie.After-offset-within Inv-loop μ-loop → ℕ → List ℕ
-left c a = let x = c .before .before .before .before .before .before .before .before .before .before .args in actionsFrom (now (x .file)) (now (x .sizes)) (now (x .action-at)) (now (x .first-node)) (now (x .node-at)) (length (now (x .action-at))) a
+left c a = let x = c .before .before .before .before .before .before .before .before .before .before .before .args in actionsFrom (now (x .file)) (now (x .sizes)) (now (x .action-at)) (now (x .first-node)) (now (x .node-at)) (length (now (x .action-at))) a
 
-cut : (c : tie.After-offset-within Inv-loop μ-loop) → let x = c .before .before .before .before .before .before .before .before .before .before .args in let a = c .before .before .loop .a in Cut (left c a) (writeEach writeStep (actionSteps (length (now (x .sizes))) a (actionIn (now (x .file)) (now (x .sizes)) (getD (now (x .action-at)) a 0) (lent c)))) (left c (a + 1))
-cut c = let x = c .before .before .before .before .before .before .before .before .before .before .args in actions-cut (now (x .file)) (now (x .sizes)) (now (x .action-at)) (now (x .first-node)) (now (x .node-at)) (length (now (x .action-at))) (c .before .before .loop .a) (own c) (c .before .loop-test .taken)
+cut : (c : tie.After-offset-within Inv-loop μ-loop) → let x = c .before .before .before .before .before .before .before .before .before .before .before .args in let a = c .before .before .loop .a in Cut (left c a) (writeEach writeStep (actionSteps (length (now (x .sizes))) a (actionIn (now (x .file)) (now (x .sizes)) (getD (now (x .action-at)) a 0) (lent c)))) (left c (a + 1))
+cut c = let x = c .before .before .before .before .before .before .before .before .before .before .before .args in actions-cut (now (x .file)) (now (x .sizes)) (now (x .action-at)) (now (x .first-node)) (now (x .node-at)) (length (now (x .action-at))) (c .before .before .loop .a) (own c) (c .before .loop-test .taken)
 
 put-action-requires : tie.Need-put-action-requires Inv-loop μ-loop
 put-action-requires c κs =
-    let s = c .before .before .before .before .before .before .before .before .before .before .before .before .before .before in
+    let s = c .before .before .before .before .before .before .before .before .before .before .before .before .before .before .before .before in
     let x = s .args in
-    let l = c .before .before .before .before .before .before .loop in
-    let taken = c .before .before .before .before .before .loop-test .taken in (
+    let l = c .before .before .before .before .before .before .before .loop in
+    let taken = c .before .before .before .before .before .before .loop-test .taken in (
       (
-        subst (Stood (now (x .file)) (now (x .sizes)) (getD (now (x .action-at)) (l .a) 0)) (sym (own (c .before .before .before .before))) (s .pre .1 .0 .0 (l .a) taken),
-        c .before .before .offset-at .ensures ∙ s .pre .1 .0 .1 (l .a) taken,
+        subst (Stood (now (x .file)) (now (x .sizes)) (getD (now (x .action-at)) (l .a) 0)) (sym (own (c .before .before .before .before .before))) (s .pre .1 .0 .0 (l .a) taken),
+        c .before .before .before .offset-at .ensures ∙ s .pre .0 .2 (l .a) taken,
+        c .before .before .offset-at2 .ensures ∙ s .pre .1 .0 .1 (l .a) taken,
         s .pre .0 .0,
         omega (arith, s .pre .0 .1, taken),
       ),
-      going-room (l .inv .1) (s .pre .1 .1) (cut (c .before .before .before .before)),
+      going-room (l .inv .1) (s .pre .1 .1) (cut (c .before .before .before .before .before)),
     )
 
 add-at : tie.Need-add-at Inv-loop μ-loop
 add-at c =
-    let fits = c .before .before .before .before .before .before .before .before .before .before .before .before .before .before .before .before .before .pre .1 .1 in
-    let g = going-more (c .before .before .before .before .before .before .before .before .before .loop .inv .1) fits (cut (c .before .before .before .before .before .before .before)) (c .before .before .put-action .ensures) in
-    omega (arith, going-inside g fits, going-same g fits)
+    let fits = c .before .before .before .before .before .before .before .before .before .before .before .before .before .before .before .before .before .before .before .pre .1 .1 in
+    let g = going-more (c .before .before .before .before .before .before .before .before .before .before .loop .inv .1) fits (cut (c .before .before .before .before .before .before .before .before)) (c .before .before .put-action .ensures) in
+    omega (arith, going-inside g fits, going-same g fits, c .before .before .before .before .before .before .before .before .before .before .before .before .before .before .before .before .before .before .before .good)
 
 returns : tie.Need-returns Inv-loop μ-loop
 returns c =
-    let s = c .before .before .before .before .before .before .before .before .before in
+    let s = c .before .before .before .before .before .before .before .before .before .before in
     let x = s .args in
     going-end (c .before .loop .inv .1) (s .pre .1 .1) (actions-none (now (x .file)) (now (x .sizes)) (now (x .action-at)) (now (x .first-node)) (now (x .node-at)) (length (now (x .action-at))) (c .before .loop .a) (omega (arith, c .loop-test .left)))
 
@@ -71,22 +72,23 @@ put-actions-spec =
     (tie.spec
     Inv-loop
     μ-loop
-    (λ c. let a = c .before .before .before .before .before .before .before .args in (omega arith, actions-start (now (a .file)) (now (a .sizes)) (now (a .action-at)) (now (a .first-node)) (now (a .node-at)) (length (now (a .action-at))) (now (a .out))))
+    (λ c. let a = c .before .before .before .before .before .before .before .before .args in (omega arith, actions-start (now (a .file)) (now (a .sizes)) (now (a .action-at)) (now (a .first-node)) (now (a .node-at)) (length (now (a .action-at))) (now (a .out))))
     (λ c κs. search needs)
     (λ c. search needs)
     (λ c. search needs)
     (λ c κs. search needs)
+    (λ c κs. search needs)
     (λ c. search needs)
     (λ c. search needs)
     (λ c. search needs)
     (λ c. search needs)
-    (λ c. going-inside (c .before .before .before .before .before .loop .inv .1) (c .before .before .before .before .before .before .before .before .before .before .before .before .before .pre .1 .1))
-    (λ c. going-inside (c .before .before .before .before .before .loop .inv .1) (c .before .before .before .before .before .before .before .before .before .before .before .before .before .pre .1 .1))
+    (λ c. going-inside (c .before .before .before .before .before .before .loop .inv .1) (c .before .before .before .before .before .before .before .before .before .before .before .before .before .before .before .pre .1 .1))
+    (λ c. going-inside (c .before .before .before .before .before .before .loop .inv .1) (c .before .before .before .before .before .before .before .before .before .before .before .before .before .before .before .pre .1 .1))
     (λ c. search needs)
     put-action-requires
     add-at
-    (λ c. omega (arith, c .before .before .before .before .before .before .before .before .loop-test .taken))
-    (λ c. omega (arith, c .before .before .before .before .before .before .before .before .loop-test .taken))
-    (λ c. (omega (arith, c .before .before .before .before .before .before .before .before .loop-test .taken), going-more (c .before .before .before .before .before .before .before .before .before .loop .inv .1) (c .before .before .before .before .before .before .before .before .before .before .before .before .before .before .before .before .before .pre .1 .1) (cut (c .before .before .before .before .before .before .before)) (c .before .before .put-action .ensures)))
-    (λ c. going-same (c .before .loop .inv .1) (c .before .before .before .before .before .before .before .before .before .pre .1 .1))
+    (λ c. omega (arith, c .before .before .before .before .before .before .before .before .before .loop-test .taken))
+    (λ c. omega (arith, c .before .before .before .before .before .before .before .before .before .loop-test .taken))
+    (λ c. (omega (arith, c .before .before .before .before .before .before .before .before .before .loop-test .taken), going-more (c .before .before .before .before .before .before .before .before .before .before .loop .inv .1) (c .before .before .before .before .before .before .before .before .before .before .before .before .before .before .before .before .before .before .before .pre .1 .1) (cut (c .before .before .before .before .before .before .before .before)) (c .before .before .put-action .ensures)))
+    (λ c. going-same (c .before .loop .inv .1) (c .before .before .before .before .before .before .before .before .before .before .pre .1 .1))
     returns)

@@ -8,7 +8,7 @@ use Rattle.taskfile.specs.WalkInPlace.{incomingPlace}
 use Rattle.compilation.specs.Compile.{flat, actionSteps}
 use Rattle.taskfile.specs.PartsInPlace.{actionsIn, Stood}
 use Rattle.compile.specs.InPlaceLaws.{stepsLeft, left-start, left-none}
-use Rattle.compile.specs.ExtentLaws.{Counted, counted-start, states-are, count-in, counted-action, counted-end}
+use Rattle.compile.specs.ExtentLaws.{Counted, counted-start, states-are, count-in, tests-own, counted-action, counted-end}
 use borrow.Author.Needs.{needs}
 use Rattle.compile.proofs.length.extent_of.Statement.{statement}
 use Rattle.compile.proofs.length.extent_of.Tie as tie
@@ -29,6 +29,12 @@ stood c = c .before .before .before .before .before .before .before .before .bef
 -- where its incoming weight stands
 place : (c : tie.After-offset-at Inv-loop μ-loop) → c .offset-at .result ≡ incomingPlace (now (c .before .before .before .before .before .before .before .before .before .before .before .args .file)) (getD (now (c .before .before .before .before .before .before .before .before .before .before .before .args .action-at)) (c .before .before .before .before .loop .a) 0)
 place c = c .offset-at .ensures ∙ c .before .before .before .before .before .before .before .before .before .before .before .pre .1 .1 (c .before .before .before .before .loop .a) (c .before .before .before .loop-test .taken)
+
+edge-count-requires : tie.Need-edge-count-requires Inv-loop μ-loop
+edge-count-requires c κs =
+    let a = c .before .before .before .before .before .before .before .before .before .before .before .before .before .args in
+    let at = getD (now (a .action-at)) (c .before .before .before .before .before .before .loop .a) 0 in
+    tests-own (now (a .file)) (now (a .sizes)) (now (a .node-at)) at (getD (now (a .first-node)) (c .before .before .before .before .before .before .loop .a) 0) (stood (c .before .before .before .before)) (c .before .before .before .offset-within .ensures) (count-in (now (a .file)) at (place (c .before .before)) (c .before .byte-at .ensures))
 
 -- it has at most 64 nodes with 255 edges each
 edges-few : (c : tie.After-edge-count Inv-loop μ-loop) → c .edge-count .result ≤ 16320
@@ -77,7 +83,7 @@ extent-of-spec =
     (λ c. omega (arith, c .before .before .offset-within .ensures))
     (λ c. omega (arith, c .before .before .offset-within .ensures))
     (λ c. search needs)
-    (λ c κs. search needs)
+    edge-count-requires
     (λ c. omega (arith, edges-few c))
     (λ c. omega (arith, c .before .before .before .before .before .before .before .loop .inv .0, c .before .before .before .before .before .before .before .loop .inv .1, c .before .before .before .before .before .before .before .before .before .before .before .before .before .before .pre .0 .1, edges-few c))
     (λ c. states-few c .0)

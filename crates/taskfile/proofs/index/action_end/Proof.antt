@@ -2,6 +2,7 @@
 use mathlib.Core.Path.{_≡_, sym, ap, _∙_}
 use denote.Ref.{now}
 use Rattle.facts.specs.Read.{accepted}
+use Rattle.facts.specs.ReadLaws.{not-refused}
 use Rattle.facts.specs.Answers.{pastAnswer}
 use Rattle.facts.specs.Fields.{nextOf, readOperator}
 use Rattle.taskfile.specs.IndexLaws.{placed-none, action-no-front, action-diagram, action-placed}
@@ -9,27 +10,29 @@ use borrow.Author.Needs.{needs}
 use Rattle.taskfile.proofs.index.action_end.Statement.{statement}
 use Rattle.taskfile.proofs.index.action_end.Tie as tie
 
-front-is : (c : tie.After-place) → let a = c .before .before .before .before .before .before .args in nextOf (readOperator (now (a .file)) (now (a .sizes)) (a .at)) ≡ accepted (c .place .given .0 .0)
-front-is c = sym (c .before .before .operator-end .ensures) ∙ ap pastAnswer (c .place .given .1)
+front-is : (c : tie.After-place) → let a = c .before .before .before .before .before .before .before .before .before .before .args in nextOf (readOperator (now (a .file)) (now (a .sizes)) (a .at)) ≡ accepted (c .place .given .0 .0)
+front-is c = sym (c .before .before .before .before .front-end .ensures .0) ∙ ap pastAnswer (c .place .given .1)
 
 returns : tie.Need-returns
 returns c =
-    let e = action-no-front _ _ _ _ (sym (c .before .before .before .operator-end .ensures) ∙ ap pastAnswer (c .before .why .given .1)) in
-    (sym e, placed-none _ _ _ _ _ _ e)
+    let e = action-no-front _ _ _ _ (sym (c .before .before .before .before .before .front-end .ensures .0) ∙ ap pastAnswer (c .before .why .given .1)) in
+    ((sym e, placed-none _ _ _ _ _ _ e), λ p q. absurd (not-refused q))
 
 returns-2 : tie.Need-returns-2
 returns-2 c =
     let d = c .before .before .diagram-end .ensures in
-    (d .0 ∙ sym (action-diagram _ _ _ _ (front-is (c .before .before .before .before .before))), action-placed _ _ _ _ (front-is (c .before .before .before .before .before)) (d .1))
+    ((d .0 ∙ sym (action-diagram _ _ _ _ (front-is (c .before .before .before .before .before))), action-placed _ _ _ _ (front-is (c .before .before .before .before .before)) (d .1)), λ p q. c .before .before .before .before .before .before .before .before .before .front-end .ensures .1 _ (ap pastAnswer (c .before .before .before .before .before .place .given .1)))
 
 pub action-end-spec : {M : Type 1} → statement M
 action-end-spec =
     tie.close
     (tie.spec
-    (λ c κs. search needs)
+    (λ c κs. (c .before .before .before .before .before .pre .3, c .before .before .before .before .before .pre .4))
     (λ c. search needs)
     (λ c. search needs)
-    (λ c κs. search needs)
+    (λ c κs. (c .before .before .before .before .before .before .before .before .before .before .before .before .pre .0, c .before .before .before .before .before .before .before .before .before .before .before .before .pre .1, c .before .before .before .before .before .before .before .before .before .before .before .before .pre .2))
+    (λ c. search needs)
     returns
+    (λ c. search needs)
     (λ c. search needs)
     returns-2)

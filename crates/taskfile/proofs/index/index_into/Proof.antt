@@ -1,8 +1,7 @@
 -- `taskfile::index::index_into` meets its contract: the head, and then the rest. Assumes nothing.
-use mathlib.Core.Path.{_≡_, sym, ap, _∙_}
-use denote.Ref.{now}
+use mathlib.Core.Path.{sym, ap, _∙_}
 use Rattle.facts.specs.Answers.{headedAnswer}
-use Rattle.taskfile.specs.TaskIndexLaws.{task-no-head, located-none}
+use Rattle.taskfile.specs.TaskIndexLaws.{task-no-head, rows-none}
 use borrow.Author.Needs.{needs}
 use Rattle.taskfile.proofs.index.index_into.Statement.{statement}
 use Rattle.taskfile.proofs.index.index_into.Tie as tie
@@ -13,7 +12,7 @@ index-actions-requires c κs = let s = c .before .before .before .before .before
 returns : tie.Need-returns
 returns c =
     let e = task-no-head _ (sym (c .before .before .before .read-head .ensures) ∙ ap headedAnswer (c .before .why .given .1)) in
-    (sym e, located-none _ _ _ _ e)
+    (sym e, rows-none _)
 
 returns-2 : tie.Need-returns-2
 returns-2 c = c .before .before .before .before .before .before .index-actions .ensures
