@@ -5,6 +5,7 @@ mod lines;
 use describe::Described;
 use facts::Checked;
 use facts::Refusal;
+use probe::Probe;
 use taskfile::Counted;
 ghost use mathlib.Core.Path.{_≡_};
 ghost use lib.ListN.{length};
@@ -54,8 +55,8 @@ fn name_in(
     ensures { λ r. ⌜ describedAnswer r ≡ lengthIn (length (now (out .entry))) (named (now (file .entry)) (now (list .entry))) ⌝ }
     ensures { λ r. ⌜ now (out .exit) ≡ textIn (now (out .entry)) (named (now (file .entry)) (now (list .entry))) ⌝ }
 {
-    if lines::MAX_LIST < list.len() {
-        return Described::Refused(Refusal::Long(lines::MAX_LIST));
+    if Probe::MAX_LIST < list.len() {
+        return Described::Refused(Refusal::Long(Probe::MAX_LIST));
     }
     let last = 1 + variables;
     let sizes = &file[1..last];
