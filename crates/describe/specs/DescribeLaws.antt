@@ -4,7 +4,7 @@ use mathlib.Core.Option.{none}
 use mathlib.Core.Path.{_≡_, refl, sym, ap, _∙_}
 use mathlib.Core.List.{List, [], _∷_, _++_}
 use native.Mathlib.Omega.{arith}
-use lib.ListN.{length, getD, take, getElem?}
+use lib.ListN.{length, getD, take, drop, getElem?}
 use Rattle.facts.specs.Read.{Read, accepted, refused}
 use Rattle.facts.specs.ReadLaws.{not-made}
 use Rattle.facts.specs.ListLaws.{look}
@@ -13,7 +13,7 @@ use Rattle.taskfile.specs.declared.Task.{Task as Index}
 use Rattle.taskfile.specs.Task.{Action, Task}
 use Rattle.taskfile.specs.TaskFile.{readTask, checkTask, actionOf}
 use Rattle.taskfile.specs.Index.{Ready}
-use Rattle.taskfile.specs.AnswerLaws.{there, starts, starts-count}
+use Rattle.taskfile.specs.AnswerLaws.{there, starts, sizes-there, starts-count}
 use Rattle.taskfile.specs.PartsInPlace.{actionsIn}
 use Rattle.taskfile.specs.PartsInPlaceLaws.{at-some, action-here, located, actions-in-place}
 use Rattle.compilation.specs.Compile.{flat}
@@ -47,7 +47,7 @@ unfolding lengthIn textIn
 written-in e v = (rw e (ap accepted (adds-end v)), rw (e, textIn) (adds-front v))
 
 module _ (f : List ℕ) where
-  -- The file's refusal.
+  -- The file's refusal, for each operation.
   pub shown-refused : {n p : ℕ} → checkTask f ≡ refused n p → shown f ≡ refused n p
   unfolding checkTask shown
   shown-refused h = rw (not-made (λ (t : Task). tt) (readTask f) h)
@@ -70,6 +70,24 @@ module _ (f : List ℕ) where
     abbrev begins : List ℕ
     begins = take (i .actions) (i .starts)
 
+    -- There is one for each.
+    pub begins-long : i .actions ≡ length begins
+    begins-long = sym (starts-count f ready ∙ there f ready .actions)
+
+    -- Where the head's parts stand, as code counts their bytes.
+    pub head-fits : 1 + i .variables + i .variables ≤ length f
+    head-fits = omega (arith, starts f ready .fits)
+
+    pub sizes-in : take (1 + i .variables - 1) (drop 1 f) ≡ t .sizes
+    sizes-in = let same : 1 + i .variables - 1 ≡ i .variables = omega arith in sizes-there f ready same
+
+    pub init-in : take (1 + i .variables + i .variables - (1 + i .variables)) (drop (1 + i .variables) f) ≡ t .init
+    init-in = let same : 1 + i .variables + i .variables - (1 + i .variables) ≡ i .variables = omega arith in ap (λ (k : ℕ). take k (drop (1 + i .variables) f)) same ∙ starts f ready .init
+
+    goal-in : partialAt f (1 + i .variables + i .variables) ≡ t .goal
+    goal-in = let same : 1 + i .variables + i .variables ≡ 1 + 2 * i .variables = omega arith in ap (partialAt f) same ∙ starts f ready .goal
+
+    -- The whole task.
     pub shown-is : shown f ≡ accepted (taskText t)
     unfolding shown
     shown-is = rw (there f ready .reads)
@@ -82,16 +100,15 @@ module _ (f : List ℕ) where
         ∙ ap (flat text 0) (ap (λ (ds : List ℕ). actionsIn f ds begins (i .firsts) (i .nodes) 0 (length begins)) e ∙ actions-in-place f ready)
 
     -- What is written, one part after the other, is the task's text.
-    pub task-text : {sizes init : List ℕ} {goal : ℕ} → sizes ≡ t .sizes → init ≡ t .init → goal ≡ 1 + 2 * i .variables
+    pub task-text : {sizes init : List ℕ} → sizes ≡ t .sizes → init ≡ t .init
         → rowFrom (λ v. variableText v (getD sizes v 0) (getD init v 0)) 0 (length sizes)
-        ++ (bytes "goal:" ++ (partialText (length sizes) (partialAt f goal) ++ (bytes "\n" ++ rowFrom (λ a. actionText (length sizes) a (actionFor f sizes begins (i .firsts) (i .nodes) a)) 0 (length begins))))
+        ++ (bytes "goal:" ++ (partialText (length sizes) (partialAt f (1 + i .variables + i .variables)) ++ (bytes "\n" ++ rowFrom (λ a. actionText (length sizes) a (actionFor f sizes begins (i .firsts) (i .nodes) a)) 0 (length begins))))
         ≡ taskText t
     unfolding taskText
-    task-text {sizes} {init} {goal} s h g =
+    task-text {sizes} {init} s h =
         let names : rowFrom (λ v. variableText v (getD sizes v 0) (getD init v 0)) 0 (length sizes) ≡ flat (λ v size. variableText v size (getD (t .init) v 0)) 0 (t .sizes) =
         rw (s, h) (sym (list-row (λ v size. variableText v size (getD (t .init) v 0)) (t .sizes) (t .sizes) 0 (λ k j l e. let same : j ≡ k = omega arith in rw same))) in
-        let goal-is : partialAt f goal ≡ t .goal = ap (partialAt f) g ∙ starts f ready .goal in
-        rw (names, goal-is, actions-text (actionText (length sizes)) s, s)
+        rw (names, goal-in, actions-text (actionText (length sizes)) s, s)
 
     -- All diagrams.
     pub drawn-is : drawn f ≡ accepted (dotText 0 (t .actions))
@@ -101,15 +118,16 @@ module _ (f : List ℕ) where
     pub drawing-is : {sizes : List ℕ} → sizes ≡ t .sizes
         → bytes "digraph costs {\n" ++ (rowFrom (λ a. dotAction a (actionFor f sizes begins (i .firsts) (i .nodes) a)) 0 (i .actions - 0) ++ bytes "}\n") ≡ dotText 0 (t .actions)
     drawing-is {sizes} s =
-        let count : i .actions - 0 ≡ length begins = omega (arith, starts-count f ready, there f ready .actions) in
+        let count : i .actions - 0 ≡ length begins = omega (arith, begins-long) in
         drawing-text 0 (t .actions) (ap (rowFrom (λ a. dotAction a (actionFor f sizes begins (i .firsts) (i .nodes) a)) 0) count ∙ actions-text dotAction s)
 
-    -- The diagram of one action.
     module _ (a : ℕ) where
+      -- There is no such action.
       pub action-missing : i .actions ≤ a → drawnAction f a ≡ refused 11 0
       unfolding drawnAction actionOf
       action-missing l = rw (there f ready .reads, look-none (t .actions) a (omega (arith, there f ready .actions)), actionOf)
 
+      -- The diagram of one action.
       pub action-is : {sizes : List ℕ} → sizes ≡ t .sizes → a < i .actions → drawnAction f a ≡ accepted (dotText a (actionFor f sizes begins (i .firsts) (i .nodes) a ∷ []))
       unfolding drawnAction actionOf
       action-is {sizes} s l =

@@ -32,7 +32,7 @@ dotEntry a incoming =
 abbrev pub dotEnd : ℕ → ℕ → List ℕ
 dotEnd a i = bytes "  " ++ (nodeName a i ++ bytes " [shape=box, label=\"end\"];\n")
 
--- all of it
+-- all of the action
 abbrev pub dotAction : ℕ → Action → List ℕ
 dotAction a x = dotEntry a (x .incoming) ++ (flat (dotNode a) 1 (x .nodes) ++ dotEnd a (suc (length (x .nodes))))
 

@@ -28,21 +28,25 @@ number-as {xs} {before} {now} {at} {end} e v = subst (λ (k : ℕ). AddsTwo xs (
 pub record Row (text : ℕ → List ℕ) (whole before now : List ℕ) (from at i end : ℕ) : Type 0 where
   pub adding : Adding whole (rowFrom text i (end - i)) before now from at
 
+-- At first all are left.
 pub row-start : (text : ℕ → List ℕ) (first end count : ℕ) (out : List ℕ) (at : ℕ) → count ≡ end - first → Row text (rowFrom text first count) out out at at first end
 row-start text first end count out at e = record { adding = rw e (adding-start (rowFrom text first (end - first)) out at) }
 
 module _ {text : ℕ → List ℕ} {whole before now : List ℕ} {from at i end : ℕ} (g : Row text whole before now from at i end) where
+  -- Then the text of i is written.
   pub row-more : {last : List ℕ} {k : ℕ} → i < end → Adds (text i) now last at k → Row text whole before last from k (i + 1) end
   row-more l v = record {
     adding = adding-more (text i) (rowFrom text (i + 1) (end - (i + 1))) (g .adding) (let e : end - i ≡ suc (end - (i + 1)) = omega arith in rw (e, add-one i)) v;
   }
 
+  -- At last none is left.
   pub row-end : end ≤ i → Adds whole before now from at
   row-end l = adding-end (g .adding) (let e : end - i ≡ 0 = omega arith in rw e)
 
 -- ---- rows of parts in place
 
 module _ (f : List ℕ) where
+  -- Edges one behind the other.
   pub edges-row : (text : ℕ → Edge → List ℕ) (node at d count : ℕ) → at ≡ node + (1 + edgeBytes * d) → flat text d (edgesIn f at count) ≡ rowFrom (λ d. text d (edgeFor f node d)) d count
   edges-row text node at d zero e = refl
   edges-row text node at d (suc count) e =
@@ -54,12 +58,14 @@ module _ (f : List ℕ) where
   edges-text sizes text node {count = count} h g =
       sym (edges-row text node (node + 1) 0 count (omega arith)) ∙ ap (λ (k : ℕ). flat text 0 (edgesIn f (node + 1) k)) (g ∙ ap (λ (v : ℕ). getD sizes v 0) h)
 
+  -- Nodes at these offsets.
   pub nodes-row : {X : Type 0} (text : ℕ → Node → List X) (sizes offsets : List ℕ) (i j count : ℕ) → i ≡ 1 + j
       → flat text i (nodesIn f sizes offsets j count) ≡ rowFrom (λ j. text (1 + j) (nodeFor f sizes offsets j)) j count
   nodes-row text sizes offsets i j zero e = refl
   nodes-row {X} text sizes offsets i j (suc count) e =
       ap₂ (λ (k : ℕ) (rest : List X). text k (nodeFor f sizes offsets j) ++ rest) e (nodes-row text sizes offsets (suc i) (suc j) count (omega arith))
 
+  -- Actions of these numbers.
   pub actions-row : {X : Type 0} (text : ℕ → Action → List X) (sizes starts firsts nodes : List ℕ) (a count : ℕ)
       → flat text a (actionsIn f sizes starts firsts nodes a count) ≡ rowFrom (λ a. text a (actionFor f sizes starts firsts nodes a)) a count
   actions-row text sizes starts firsts nodes a zero = refl

@@ -41,7 +41,7 @@ statesText n a pre eff = bytes "action " ++ (decimal a ++ (bytes "\n  preconditi
 abbrev pub costText : ℕ → List Node → List ℕ
 costText incoming nodes = bytes "\n  cost: " ++ (decimal incoming ++ (bytes ", then " ++ (targetText (length nodes) 1 ++ (bytes "\n" ++ flat (nodeText (length nodes)) 1 nodes))))
 
--- both
+-- all of the action
 abbrev pub actionText : ℕ → ℕ → Action → List ℕ
 actionText n a x = statesText n a (x .pre) (x .eff) ++ costText (x .incoming) (x .nodes)
 

@@ -37,6 +37,7 @@ module _ (f sizes : List ℕ) where
   nodes-text offsets m =
       sym (nodes-row f (nodeText m) sizes offsets 1 0 m (omega arith)) ∙ ap (λ (k : ℕ). flat (nodeText k) 1 (nodesIn f sizes offsets 0 m)) (sym (nodes-long f sizes offsets 0 m))
 
+  -- The target of the edge into node 1.
   pub first-target : (offsets : List ℕ) (m : ℕ) → targetText m 1 ≡ targetText (length (nodesIn f sizes offsets 0 m)) 1
   first-target offsets m = ap (λ (k : ℕ). targetText k 1) (sym (nodes-long f sizes offsets 0 m))
 

@@ -35,6 +35,7 @@ module _ (f : List ℕ) where
   -- ---- the variables from v on
 
   module _ (n v k at : ℕ) where
+    -- The bit of variable v does not stand; it stands; or the file ends before its value.
     facts-even : factsText (suc n) v (standingAt f (2 * k) at) ≡ factsText n (suc v) (standingAt f k at)
     facts-even = ap₂ (λ (x y : List ℕ). x ++ y) (first-even (bitText v) f k at) (ap (factsText n (suc v)) (above-even f k at))
 
@@ -66,10 +67,12 @@ module _ (f : List ℕ) where
   pub record FactsLeft (whole before now : List ℕ) (from at n v m place : ℕ) : Type 0 where
     pub adding : Adding whole (factsText (n - v) v (standingAt f m place)) before now from at
 
+  -- At first all are left.
   pub facts-start : (n m place : ℕ) (out : List ℕ) (at : ℕ) → FactsLeft (factsText n 0 (standingAt f m place)) out out at at n 0 m place
   facts-start n m place out at = let e : n - 0 ≡ n = omega arith in record { adding = rw e (adding-start (factsText n 0 (standingAt f m place)) out at) }
 
   module _ {whole before now : List ℕ} {from at n v m place : ℕ} (g : FactsLeft whole before now from at n v m place) where
+    -- Then the fact of variable v is written.
     pub facts-more : {last : List ℕ} {end k b next : ℕ} → b ≡ m % 2 → k ≡ m / 2 → next ≡ place + b → v < n → Adds (bitText v b (drop place f)) now last at end
         → FactsLeft whole before last from end n (v + 1) k next
     facts-more {k = k} {b = b} {next = next} e h q l w = record {
@@ -79,6 +82,7 @@ module _ (f : List ℕ) where
           ∙ ap (λ (j : ℕ). bitText v b (drop place f) ++ factsText (n - (v + 1)) j (standingAt f k next)) (sym (add-one v))) w;
     }
 
+    -- At last none is left.
     pub facts-end : n ≤ v → Adds whole before now from at
     facts-end l = adding-end (g .adding) (let e : n - v ≡ 0 = omega arith in rw e)
 
@@ -90,6 +94,7 @@ module _ (f : List ℕ) where
   some-none p n e = rw e
 
   module _ (n at : ℕ) where
+    -- There is no map, or an empty one.
     pub partial-cut : {k p : ℕ} → readNumber f 8 at ≡ refused k p → bytes " none" ≡ partialText n (partialAt f at)
     partial-cut h = some-none (partialAt f at) n (ap (λ (p : Partial). p .map) (empty-read f at h))
 

@@ -15,6 +15,7 @@ costsOf xs = map (λ (x : Named). x .cost) xs
 abbrev pub stepCosts : List Step → List ℕ
 stepCosts xs = map (λ (x : Step). x .cost) xs
 
+-- The costs of two rows.
 both : {A : Type 0} (cost : A → ℕ) (xs ys : List A) → map cost (xs ++ ys) ≡ map cost xs ++ map cost ys
 both cost [] ys = refl
 both cost (x ∷ xs) ys = ap (λ (l : List ℕ). cost x ∷ l) (both cost xs ys)
@@ -29,10 +30,12 @@ flat-costs names steps h k (x ∷ xs) =
     ∙ sym (both (λ (y : Step). y .cost) (steps k x) (flat steps (suc k) xs))
 
 module _ (n a : ℕ) where
+  -- The steps of a node.
   edge-costs : (i v d : ℕ) (edges : List Edge) → costsOf (mapFrom (λ d (e : Edge). record { name = node a i v d; cost = e .weight }) d edges) ≡ stepCosts (mapFrom (edgeStep n a i v) d edges)
   edge-costs i v d [] = refl
   edge-costs i v d (e ∷ edges) = ap (λ (l : List ℕ). e .weight ∷ l) (edge-costs i v (suc d) edges)
 
+  -- The steps of an action.
   action-costs : (x : Action) → costsOf (actionNames a x) ≡ stepCosts (actionSteps n a x)
   action-costs x =
       ap (λ (l : List ℕ). x .incoming ∷ l)

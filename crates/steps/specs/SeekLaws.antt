@@ -17,6 +17,7 @@ use Rattle.describe.specs.RowLaws.{nodes-row}
 use Rattle.steps.specs.Steps.{start, node, end, Named, nodeNames, actionNames}
 use Rattle.steps.specs.Seek.{Place, found, past, seek, namesIn}
 
+-- What lies past a row is not found in it.
 not-found : {k : ℕ} {x : Named} → past k ≡ found x → ⊥
 not-found e = let z : _≡_ {A = ℕ} 0 1 = cc in omega arith
 
@@ -50,6 +51,7 @@ look-past (y ∷ xs) (suc k) h = look-past xs k h
 pub record Seeking (part : ℕ → List Named) (whole : Place) (i end k : ℕ) : Type 0 where
   pub left : seek (rowFrom part i (end - i)) k ≡ whole
 
+-- At first all are left.
 pub seeking-start : (part : ℕ → List Named) (count k : ℕ) → Seeking part (seek (rowFrom part 0 count) k) 0 count k
 seeking-start part count k = let e : count - 0 ≡ count = omega arith in record { left = ap (λ (n : ℕ). seek (rowFrom part 0 n) k) e }
 
@@ -58,20 +60,24 @@ module _ {part : ℕ → List Named} {whole : Place} {i end k : ℕ} (g : Seekin
   cut : i < end → seek (part i ++ rowFrom part (suc i) (end - suc i)) k ≡ whole
   cut l = let e : end - i ≡ suc (end - suc i) = omega arith in sym (ap (λ (n : ℕ). seek (rowFrom part i n) k) e) ∙ g .left
 
+  -- The step is one of part i.
   pub seeking-found : {x : Named} → i < end → seek (part i) k ≡ found x → found x ≡ whole
   seeking-found l h = sym (seek-found (part i) (rowFrom part (suc i) (end - suc i)) k h) ∙ cut l
 
+  -- It lies past part i.
   pub seeking-on : {j : ℕ} → i < end → seek (part i) k ≡ past j → Seeking part whole (i + 1) end j
   seeking-on {j} l h = record {
     left = ap (λ (n : ℕ). seek (rowFrom part n (end - n)) j) (add-one i) ∙ sym (seek-past (part i) (rowFrom part (suc i) (end - suc i)) k h) ∙ cut l;
   }
 
+  -- It lies past all parts.
   pub seeking-past : end ≤ i → past k ≡ whole
   seeking-past l = let e : end - i ≡ 0 = omega arith in sym (ap (λ (n : ℕ). seek (rowFrom part i n) k) e) ∙ g .left
 
 -- ---- the steps of a node
 
 module _ (f : List ℕ) (g : ℕ → Edge → Named) where
+  -- The edge for the value k, or as many edges passed as there are.
   edge-found : (at d count k o q : ℕ) → k < count → o ≡ at + edgeBytes * k → q ≡ d + k → seek (mapFrom g d (edgesIn f at count)) k ≡ found (g q (edgeIn f o))
   edge-found at d zero k o q l e h = absurd (omega arith)
   edge-found at d (suc count) zero o q l e h =
@@ -87,14 +93,17 @@ module _ (f : List ℕ) (g : ℕ → Edge → Named) where
 
 -- the node at an offset
 module _ (f sizes : List ℕ) (at a i k : ℕ) {v count : ℕ} (h : v ≡ getD f at 0) (g : count ≡ getD sizes v 0) where
+  -- as many edges as the variable has values
   values : count ≡ getD sizes (getD f at 0) 0
   values = g ∙ ap (λ (v : ℕ). getD sizes v 0) h
 
+  -- The edge for the value k.
   pub node-found : {weight : ℕ} → k < count → weight ≡ edgeIn f (at + (1 + edgeBytes * k)) .weight → found (record { name = node a i v k; cost = weight }) ≡ seek (nodeNames a i (nodeIn f sizes at)) k
   node-found l w =
       ap₂ (λ (v w : ℕ). found (record { name = node a i v k; cost = w })) h w
       ∙ sym (edge-found f (λ d (e : Edge). record { name = node a i (getD f at 0) d; cost = e .weight }) (at + 1) 0 (getD sizes (getD f at 0) 0) k (at + (1 + edgeBytes * k)) k (omega (arith, values)) (omega arith) (omega arith))
 
+  -- There is no such value.
   pub node-past : count ≤ k → past (k - count) ≡ seek (nodeNames a i (nodeIn f sizes at)) k
   node-past l =
       sym (edge-past f (λ d (e : Edge). record { name = node a i (getD f at 0) d; cost = e .weight }) (at + 1) 0 (getD sizes (getD f at 0) 0) k (k - count) (omega (arith, values)) (omega (arith, values)))
@@ -112,9 +121,11 @@ module _ (f sizes : List ℕ) (at : ℕ) (offsets : List ℕ) (a k : ℕ) where
   abbrev steps : List Named
   steps = actionNames a (actionIn f sizes at offsets)
 
+  -- the last of them
   abbrev last : Named
   last = record { name = end a; cost = 0 }
 
+  -- The start.
   pub action-start : {w : ℕ} → k ≡ 0 → w ≡ wordAt f (incomingPlace f at) → found (record { name = start a; cost = w }) ≡ seek steps k
   action-start e w = ap (λ (w : ℕ). found (record { name = start a; cost = w })) w ∙ ap (seek steps) (sym e)
 
@@ -123,6 +134,7 @@ module _ (f sizes : List ℕ) (at : ℕ) (offsets : List ℕ) (a k : ℕ) where
     abbrev edges : List Named
     edges = rowFrom (λ j. nodeNames a (1 + j) (nodeFor f sizes offsets j)) 0 m
 
+    -- what follows the start
     among : seek steps k ≡ seek (edges ++ (last ∷ [])) (k - 1)
     among =
         let same : flat (nodeNames a) 1 (nodesIn f sizes offsets 0 (nodeCount f at)) ≡ edges =
@@ -130,21 +142,26 @@ module _ (f sizes : List ℕ) (at : ℕ) (offsets : List ℕ) (a k : ℕ) where
         after-first (record { name = start a; cost = wordAt f (incomingPlace f at) }) (flat (nodeNames a) 1 (nodesIn f sizes offsets 0 (nodeCount f at)) ++ (last ∷ [])) k later
         ∙ ap (λ (xs : List Named). seek (xs ++ (last ∷ [])) (k - 1)) same
 
+    -- A step of a node.
     pub action-found : {x : Named} → seek edges (k - 1) ≡ found x → found x ≡ seek steps k
     action-found h = sym (among ∙ seek-found edges (last ∷ []) (k - 1) h)
 
+    -- The end.
     pub action-end : {l : ℕ} → seek edges (k - 1) ≡ past l → l ≡ 0 → found (record { name = end a; cost = 0 }) ≡ seek steps k
     action-end h e = sym (among ∙ seek-past edges (last ∷ []) (k - 1) h ∙ ap (seek (last ∷ [])) e)
 
+    -- It lies past the action.
     pub action-past : {l : ℕ} → seek edges (k - 1) ≡ past l → (l ≡ 0 → ⊥) → past (l - 1) ≡ seek steps k
     action-past {l} h e = sym (among ∙ seek-past edges (last ∷ []) (k - 1) h ∙ after-first last [] l e)
 
 -- ---- the steps of all actions
 
 module _ (f sizes starts firsts nodes : List ℕ) where
+  -- the steps of action a
   abbrev pub partOf : ℕ → List Named
   partOf a = actionNames a (actionFor f sizes starts firsts nodes a)
 
+  -- At first those of all are left.
   pub names-start : (k : ℕ) → Seeking partOf (seek (namesIn f sizes starts firsts nodes) k) 0 (length starts) k
   unfolding namesIn
   names-start k = seeking-start partOf (length starts) k

@@ -15,6 +15,7 @@ pub data StepName : Type 0 where
   node : ℕ → ℕ → ℕ → ℕ → StepName
   end : ℕ → StepName
 
+-- a step by name, and what it costs
 pub record Named : Type 0 where
   pub name : StepName
   pub cost : ℕ

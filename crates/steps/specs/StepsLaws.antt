@@ -50,6 +50,7 @@ module _ (names : List Named) where
   pub record Checking (list : List ℕ) (whole : Read (Unit {0})) (i : ℕ) : Type 0 where
     pub left : checkSteps names i (drop i list) ≡ whole
 
+  -- At first none is looked at.
   pub checking-start : (list : List ℕ) → Checking list (checkSteps names 0 list) 0
   checking-start list = record { left = refl }
 
@@ -62,12 +63,15 @@ module _ (names : List Named) where
     cut : i < length list → checkSteps names i (getD list i 0 ∷ drop (suc i) list) ≡ whole
     cut l = ap (checkSteps names i) (sym (drop-cons list i 0 l)) ∙ g .left
 
+    -- The entry at index i is a step.
     pub checking-on : {x : Named} → i < length list → seek names (getD list i 0) ≡ found x → Checking list whole (i + 1)
     checking-on l h = record { left = ap (λ (j : ℕ). checkSteps names j (drop j list)) (add-one i) ∙ sym (ap answer (look-found names (getD list i 0) h)) ∙ cut l }
 
+    -- It is none.
     pub checking-stops : {k : ℕ} → i < length list → seek names (getD list i 0) ≡ past k → refused 11 i ≡ whole
     checking-stops l h = sym (ap answer (look-past names (getD list i 0) h)) ∙ cut l
 
+    -- At last all are steps.
     pub checking-end : length list ≤ i → accepted tt ≡ whole
     checking-end l = ap (checkSteps names i) (sym (drop-of-length-le list {i = i} l)) ∙ g .left
 
@@ -77,10 +81,12 @@ module _ (names : List Named) where
   pub record LinesLeft (list whole before now : List ℕ) (at i sum : ℕ) : Type 0 where
     pub adding : Adding whole (linesFrom names sum (drop i list)) before now 0 at
 
+  -- At first none is written.
   pub lines-start : (list out : List ℕ) → LinesLeft list (linesFrom names 0 list) out out 0 0 0
   lines-start list out = record { adding = adding-start (linesFrom names 0 list) out 0 }
 
   module _ {list whole before now : List ℕ} {at i sum : ℕ} (g : LinesLeft list whole before now at i sum) where
+    -- Then the line of the entry at index i.
     pub lines-more : {last : List ℕ} {end paid : ℕ} → i < length list → Adds (entryText names (getD list i 0) sum) now last at end → paid ≡ sum + costAt names (getD list i 0)
         → LinesLeft list whole before last end (i + 1) paid
     lines-more {paid = paid} l v e =
@@ -89,6 +95,7 @@ module _ (names : List Named) where
         ap (linesFrom names sum) (drop-cons list i 0 l) ∙ ap₂ (λ (s j : ℕ). entryText names k sum ++ linesFrom names s (drop j list)) (sym e) (sym (add-one i)) in
         record { adding = adding-more (entryText names k sum) (linesFrom names paid (drop (i + 1) list)) (g .adding) next v }
 
+    -- At last all are written.
     pub lines-end : length list ≤ i → Adds whole before now 0 at
     lines-end l = adding-end (g .adding) (ap (linesFrom names sum) (drop-of-length-le list {i = i} l))
 

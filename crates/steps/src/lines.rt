@@ -11,6 +11,7 @@ ghost use mathlib.Core.Path.{_≡_};
 ghost use Prim.Native.Nat.{_+_, _*_, _≤_};
 ghost use lib.ListN.{length};
 ghost use Rattle.facts.specs.Answers.{checkedAnswer};
+ghost use Rattle.probe.specs.Probe.{maxList};
 ghost use Rattle.text.specs.Append.{Adds};
 ghost use Rattle.steps.specs.Steps.{node, nameText, lineText, costAt, entryText, linesFrom, checkSteps};
 ghost use Rattle.steps.specs.Seek.{nameOf, namesIn};
@@ -56,7 +57,7 @@ pub fn put_lines(
     nodes: &[usize],
     list: &[u16],
 ) -> usize
-    requires { ⌜ length (now list) ≤ 6656 ⌝ }
+    requires { ⌜ length (now list) ≤ maxList ⌝ }
     ensures { λ r. ⌜ Adds (linesFrom (namesIn (now (file .entry)) (now (sizes .entry)) (now (starts .entry)) (now (firsts .entry)) (now (nodes .entry))) 0 (now (list .entry))) (now (out .entry)) (now (out .exit)) 0 r ⌝ }
 {
     let mut end: usize = 0;
@@ -83,7 +84,7 @@ fn put_entry(
     k: u16,
     sum: u64,
 ) -> Line
-    requires { ⌜ sum ≤ 4294967295 * 6656 ⌝ }
+    requires { ⌜ sum ≤ 4294967295 * maxList ⌝ }
     ensures { λ r. ⌜ Adds (entryText (namesIn (now (file .entry)) (now (sizes .entry)) (now (starts .entry)) (now (firsts .entry)) (now (nodes .entry))) k sum) (now (out .entry)) (now (out .exit)) at (r .end) ⌝ }
     ensures { λ r. ⌜ (r .sum ≡ sum + costAt (namesIn (now (file .entry)) (now (sizes .entry)) (now (starts .entry)) (now (firsts .entry)) (now (nodes .entry))) k) × (r .sum ≤ sum + 4294967295) ⌝ }
 {

@@ -1,39 +1,27 @@
 -- `describe::draw_in` meets its contract: the diagrams in place are the task's. Assumes nothing.
-use Prim.Native.Nat.{ℕ, _+_, _-_, _≤_}
-use mathlib.Core.Path.{_≡_, sym, ap, _∙_}
-use lib.ListN.{length, take, drop}
-use lib.Seq.{length-take-le}
 use denote.Ref.{now}
-use Rattle.taskfile.specs.AnswerLaws.{there, starts}
 use Rattle.text.specs.AppendLaws.{adds-as}
-use Rattle.describe.specs.DescribeLaws.{drawn-is, drawing-is, written-in}
+use Rattle.describe.specs.DescribeLaws.{begins-long, head-fits, sizes-in, drawn-is, drawing-is, written-in}
 use borrow.Author.Needs.{needs}
 use native.Mathlib.Omega.{arith}
 use Rattle.describe.proofs.draw_in.Statement.{statement}
 use Rattle.describe.proofs.draw_in.Tie as tie
 
--- the domain sizes as the code counts their bytes
-sizes-are : (s : tie.Start) → take (1 + s .args .variables - 1) (drop 1 (now (s .args .file))) ≡ there _ (s .pre) .task .sizes
-sizes-are s = let same : 1 + s .args .variables - 1 ≡ s .args .variables = omega arith in ap (λ (k : ℕ). take k (drop 1 (now (s .args .file)))) same ∙ starts _ (s .pre) .sizes
-
--- there are starts for so many actions
-few : (s : tie.Start) → s .args .actions ≤ length (now (s .args .starts))
-few s = omega (arith, s .pre .starts-long, starts _ (s .pre) .actions)
-
 returns : tie.Need-returns
 returns c =
     let s = c .before .before .before .before .before .before .before .before .before .before .before in
-    written-in (drawn-is (now (s .args .file)) (s .pre)) (adds-as (drawing-is (now (s .args .file)) (s .pre) (sizes-are s)) (c .before .before .put-drawing .ensures))
+    let f = now (s .args .file) in
+    written-in (drawn-is f (s .pre)) (adds-as (drawing-is f (s .pre) (sizes-in f (s .pre))) (c .before .before .put-drawing .ensures))
 
 pub draw-in-spec : {M : Type 1} → statement M
 draw-in-spec =
     tie.close
     (tie.spec
-    (λ c. omega (arith, starts _ (c .before .before .before .before .before .pre) .fits))
-    (λ c. sym (length-take-le _ _ (few (c .before .before .before .before .before .before))))
+    (λ c. omega (arith, head-fits _ (c .before .before .before .before .before .pre)))
+    (λ c. begins-long _ (c .before .before .before .before .before .before .pre))
     (λ c. search needs)
     (λ c. search needs)
-    (λ c. omega (arith, starts _ (c .before .before .before .before .before .before .before .pre) .fits))
+    (λ c. omega (arith, head-fits _ (c .before .before .before .before .before .before .before .pre)))
     (λ c κs. search needs)
     (λ c. search needs)
     returns)

@@ -1,25 +1,13 @@
 -- `steps::name_in` meets its contract: the limit, the steps that are none, and then the lines. Assumes nothing.
-use Prim.Native.Nat.{ℕ, _+_, _-_, _≤_}
-use mathlib.Core.Path.{_≡_, sym, ap, _∙_}
-use lib.ListN.{length, take, drop}
-use lib.Seq.{length-take-le}
+use mathlib.Core.Path.{sym, ap, _∙_}
 use denote.Ref.{now}
 use Rattle.facts.specs.Answers.{checkedAnswer}
-use Rattle.taskfile.specs.AnswerLaws.{there, starts}
-use Rattle.describe.specs.DescribeLaws.{refused-in, written-in}
+use Rattle.describe.specs.DescribeLaws.{begins-long, head-fits, sizes-in, refused-in, written-in}
 use Rattle.steps.specs.StepsLaws.{names-are, named-long, named-missing, named-is}
 use borrow.Author.Needs.{needs}
 use native.Mathlib.Omega.{arith}
 use Rattle.steps.proofs.name_in.Statement.{statement}
 use Rattle.steps.proofs.name_in.Tie as tie
-
--- the domain sizes as the code counts their bytes
-sizes-are : (s : tie.Start) → take (1 + s .args .variables - 1) (drop 1 (now (s .args .file))) ≡ there _ (s .pre) .task .sizes
-sizes-are s = let same : 1 + s .args .variables - 1 ≡ s .args .variables = omega arith in ap (λ (k : ℕ). take k (drop 1 (now (s .args .file)))) same ∙ starts _ (s .pre) .sizes
-
--- there are starts for so many actions
-few : (s : tie.Start) → s .args .actions ≤ length (now (s .args .starts))
-few s = omega (arith, s .pre .starts-long, starts _ (s .pre) .actions)
 
 returns : tie.Need-returns
 returns c = let s = c .before .before .before .before .before .before .before in refused-in (now (s .args .out)) (named-long (now (s .args .file)) (now (s .args .list)) (s .pre) (c .if1 .taken))
@@ -29,25 +17,25 @@ returns-2 c =
     let s = c .before .before .before .before .before .before .before .before .before .before .before .before .before in
     let f = now (s .args .file) in
     let list = now (s .args .list) in
-    refused-in (now (s .args .out)) (named-missing f list (s .pre) (c .before .before .before .before .before .before .if1 .left) (names-are f list (s .pre) (sizes-are s)) (sym (c .before .before .before .check-steps .ensures) ∙ ap checkedAnswer (c .before .why .given .1)))
+    refused-in (now (s .args .out)) (named-missing f list (s .pre) (c .before .before .before .before .before .before .if1 .left) (names-are f list (s .pre) (sizes-in f (s .pre))) (sym (c .before .before .before .check-steps .ensures) ∙ ap checkedAnswer (c .before .why .given .1)))
 
 returns-3 : tie.Need-returns-3
 returns-3 c =
     let s = c .before .before .before .before .before .before .before .before .before .before .before .before .before .before .before .before in
     let f = now (s .args .file) in
     let list = now (s .args .list) in
-    written-in (named-is f list (s .pre) (c .before .before .before .before .before .before .before .before .before .if1 .left) (names-are f list (s .pre) (sizes-are s)) (sym (c .before .before .before .before .before .before .check-steps .ensures) ∙ ap checkedAnswer (c .before .before .before .before .enum-told .given .1))) (c .before .before .put-lines .ensures)
+    written-in (named-is f list (s .pre) (c .before .before .before .before .before .before .before .before .before .if1 .left) (names-are f list (s .pre) (sizes-in f (s .pre))) (sym (c .before .before .before .before .before .before .check-steps .ensures) ∙ ap checkedAnswer (c .before .before .before .before .enum-told .given .1))) (c .before .before .put-lines .ensures)
 
 pub name-in-spec : {M : Type 1} → statement M
 name-in-spec =
     tie.close
     (tie.spec
     returns
-    (λ c. omega (arith, starts _ (c .before .before .before .before .before .before .before .pre) .fits))
+    (λ c. omega (arith, head-fits _ (c .before .before .before .before .before .before .before .pre)))
     (λ c. search needs)
     (λ c. search needs)
-    (λ c. omega (arith, starts _ (c .before .before .before .before .before .before .before .pre) .fits))
-    (λ c. sym (length-take-le _ _ (few (c .before .before .before .before .before .before .before .before .before))))
+    (λ c. omega (arith, head-fits _ (c .before .before .before .before .before .before .before .pre)))
+    (λ c. begins-long _ (c .before .before .before .before .before .before .before .before .before .pre))
     (λ c κs. search needs)
     (λ c. search needs)
     (λ c. search needs)
