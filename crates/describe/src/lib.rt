@@ -5,6 +5,7 @@ pub mod words;
 
 use facts::Refusal;
 use taskfile::Counted;
+use taskfile::Task;
 use text::append::append;
 ghost use mathlib.Core.Path.{_≡_};
 ghost use lib.ListN.{length};
@@ -23,7 +24,7 @@ pub fn show(file: &[u8], out: &mut [u8]) -> Described
     ensures { λ r. ⌜ describedAnswer r ≡ lengthIn (length (now (out .entry))) (shown (now (file .entry))) ⌝ }
     ensures { λ r. ⌜ now (out .exit) ≡ textIn (now (out .entry)) (shown (now (file .entry))) ⌝ }
 {
-    let mut starts = [0; 32];
+    let mut starts = [0; Task::PLACES];
     let mut firsts = [0; 32];
     let mut nodes = [0; 64];
     let counted = taskfile::index_in(file, &mut starts, &mut firsts, &mut nodes);
@@ -65,7 +66,7 @@ pub fn draw(file: &[u8], out: &mut [u8]) -> Described
     ensures { λ r. ⌜ describedAnswer r ≡ lengthIn (length (now (out .entry))) (drawn (now (file .entry))) ⌝ }
     ensures { λ r. ⌜ now (out .exit) ≡ textIn (now (out .entry)) (drawn (now (file .entry))) ⌝ }
 {
-    let mut starts = [0; 32];
+    let mut starts = [0; Task::PLACES];
     let mut firsts = [0; 32];
     let mut nodes = [0; 64];
     let counted = taskfile::index_in(file, &mut starts, &mut firsts, &mut nodes);
@@ -111,7 +112,7 @@ pub fn draw_action(file: &[u8], action: usize, out: &mut [u8]) -> Described
     ensures { λ r. ⌜ describedAnswer r ≡ lengthIn (length (now (out .entry))) (drawnAction (now (file .entry)) action) ⌝ }
     ensures { λ r. ⌜ now (out .exit) ≡ textIn (now (out .entry)) (drawnAction (now (file .entry)) action) ⌝ }
 {
-    let mut starts = [0; 32];
+    let mut starts = [0; Task::PLACES];
     let mut firsts = [0; 32];
     let mut nodes = [0; 64];
     let counted = taskfile::index_in(file, &mut starts, &mut firsts, &mut nodes);

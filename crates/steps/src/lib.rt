@@ -7,6 +7,7 @@ use facts::Checked;
 use facts::Refusal;
 use probe::Probe;
 use taskfile::Counted;
+use taskfile::Task;
 ghost use mathlib.Core.Path.{_≡_};
 ghost use lib.ListN.{length};
 ghost use Rattle.taskfile.specs.Index.{Ready};
@@ -19,7 +20,7 @@ pub fn name_steps(file: &[u8], list: &[u16], out: &mut [u8]) -> Described
     ensures { λ r. ⌜ describedAnswer r ≡ lengthIn (length (now (out .entry))) (named (now (file .entry)) (now (list .entry))) ⌝ }
     ensures { λ r. ⌜ now (out .exit) ≡ textIn (now (out .entry)) (named (now (file .entry)) (now (list .entry))) ⌝ }
 {
-    let mut starts = [0; 32];
+    let mut starts = [0; Task::PLACES];
     let mut firsts = [0; 32];
     let mut nodes = [0; 64];
     let counted = taskfile::index_in(file, &mut starts, &mut firsts, &mut nodes);
