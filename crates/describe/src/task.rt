@@ -4,13 +4,13 @@ use crate::words::put_partial;
 use facts::number::byte_at;
 use facts::number::offset_at;
 use facts::number::offset_within;
-use facts::partial::length_at;
 use taskfile::walk::diagram_at;
 use taskfile::walk::edge_for;
+use taskfile::walk::effect_at;
 use text::append::append;
 ghost use Prim.Native.Nat.{_+_};
 ghost use lib.ListN.{length, getD, drop};
-ghost use Rattle.facts.specs.Partial.{partialAt, pastPartial, Alike};
+ghost use Rattle.facts.specs.Partial.{partialAt, pastPartial};
 ghost use Rattle.taskfile.specs.Task.{Edge};
 ghost use Rattle.taskfile.specs.PartsInPlace.{nodeIn, nodesIn, actionIn};
 ghost use Rattle.text.specs.Append.{Adds};
@@ -112,16 +112,6 @@ fn put_nodes(
         j += 1;
     }
     end
-}
-
-// Where the effect of the action at an offset stands; past the end of the file the offset stays.
-fn effect_at(file: &[u8], place: usize) -> usize
-    ensures { λ r. ⌜ Alike (now (file .entry)) r (pastPartial (now (file .entry)) place) ⌝ }
-{
-    if file.len() < place {
-        return place;
-    }
-    place + length_at(file, place)
 }
 
 // Action a, at an offset: its number, precondition and effect.

@@ -79,7 +79,7 @@ pub fn diagram_past(file: &[u8], effect: usize) -> Diagram
 }
 
 // Where the effect of the action at an offset stands; past the end of the file the offset stays.
-fn effect_at(file: &[u8], at: usize) -> usize
+pub fn effect_at(file: &[u8], at: usize) -> usize
     ensures { λ r. ⌜ Alike (now (file .entry)) r (pastPartial (now (file .entry)) at) ⌝ }
 {
     if file.len() < at {
