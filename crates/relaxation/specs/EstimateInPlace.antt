@@ -1,5 +1,5 @@
 -- The least cost of an action by the old numbers, and the actions of a task for the heuristic, in place.
-use Prim.Native.Nat.{ℕ, _+_, _*_, _≤_, _<_}
+use Prim.Native.Nat.{ℕ, suc, _+_, _*_, _≤_, _<_}
 use mathlib.Core.List.{List, map}
 use lib.ListN.{length, getD, drop}
 use Rattle.facts.specs.Partial.{partialAt}
@@ -10,7 +10,8 @@ use Rattle.estimate.specs.Ranks.{Roomy}
 use Rattle.taskfile.specs.Task.{maxNodes, WfAction}
 use Rattle.taskfile.specs.TaskFile.{edgeBytes}
 use Rattle.taskfile.specs.WalkInPlace.{nodeCount}
-use Rattle.taskfile.specs.PartsInPlace.{edgeIn, actionIn, actionsIn}
+use Rattle.taskfile.specs.PartsInPlace.{edgeIn, nodeIn, actionIn, actionsIn}
+use Rattle.relaxation.specs.Pass.{edgeFor}
 use Rattle.relaxation.specs.Estimate.{actionAchiever}
 use Rattle.relaxation.specs.EstimatePass.{leastCostByPass}
 
@@ -31,6 +32,11 @@ pub record Priceable (f sizes : List ℕ) (at : ℕ) (offsets : List ℕ) : Type
   pub fits : at ≤ length f
   pub wf : WfAction sizes (actionIn f sizes at offsets)
   pub few : nodeCount f at ≤ maxNodes
+
+-- nodes that begin at these offsets are few, and each of their edges leads to a higher number
+pub record Climbing (f sizes offsets : List ℕ) (count : ℕ) : Type 0 where
+  pub few : count ≤ maxNodes
+  pub above : (j : ℕ) → j < count → (d : ℕ) → d < getD sizes (getD f (getD offsets j 0) 0) 0 → suc j < edgeFor (nodeIn f sizes (getD offsets j 0)) d .target
 
 -- an array of ranks has room for so many facts, those of 24 variables
 abbrev pub taskFacts : ℕ

@@ -23,17 +23,17 @@ use Rattle.estimate.specs.InTurnLaws.{Turning, turning-start, turning-more, tur
 use Rattle.taskfile.specs.Task.{Edge, Action, maxWeight, WfAction}
 use Rattle.taskfile.specs.TaskFile.{edgeBytes}
 use Rattle.taskfile.specs.WalkInPlace.{incomingPlace, nodeCount}
-use Rattle.taskfile.specs.PartsInPlace.{edgeIn, nodeIn, actionIn, actionsIn}
+use Rattle.taskfile.specs.PartsInPlace.{edgeIn, nodeIn, nodesIn, actionIn, actionsIn}
 use Rattle.relaxation.specs.Least.{leastOf}
 use Rattle.relaxation.specs.LeastLaws.{map-agree, least-taken}
-use Rattle.relaxation.specs.Pass.{byEdge, leastAt, Filled}
-use Rattle.relaxation.specs.PassLaws.{edges-above, pass-agrees}
+use Rattle.relaxation.specs.Pass.{byEdge, leastAt, leastFrom, Filled}
+use Rattle.relaxation.specs.PassLaws.{edge-inside, Above, pass-agrees}
 use Rattle.relaxation.specs.PassInPlaceLaws.{edge-there, node-there, table-start, table-next, table-end}
 use Rattle.relaxation.specs.Estimate.{actionAchiever}
 use Rattle.relaxation.specs.EstimatePass.{numberPass, leastCostByPass}
 use Rattle.relaxation.specs.LeastCostLaws.{numbers, upFrom-below}
 use Rattle.relaxation.specs.EstimateRounds.{by-pass-supported}
-use Rattle.relaxation.specs.EstimateInPlace.{numberFor, achieverIn, achieversIn, Priceable, Estimable}
+use Rattle.relaxation.specs.EstimateInPlace.{numberFor, achieverIn, achieversIn, Priceable, Climbing, Estimable}
 
 -- a weight is exact
 pub weight-exact : (w : ℕ) → w ≤ maxWeight → exact w ≡ capped w
@@ -112,29 +112,42 @@ pub number-never : (f : List ℕ) (node : ℕ) (of : ℕ → ℕ → Number) (v 
 number-never f node of v table d h =
     let e = edgeIn f (node + (1 + edgeBytes * d)) in sum-never-second (capped (e .weight)) (sym (sum-never-first (ranked (getD table (e .target) 0)) h))
 
--- ---- the table of an action in place
+-- ---- the table of a diagram in place
 
-module _ {f sizes : List ℕ} {at : ℕ} {offsets : List ℕ} (r : Priceable f sizes at offsets) (of : ℕ → ℕ → Number) where
+-- the edges of an action that stands in an accepted file lead to higher numbers
+pub climbing : {f sizes : List ℕ} {at : ℕ} {offsets : List ℕ} → Priceable f sizes at offsets → {count : ℕ} → count ≡ nodeCount f at → Climbing f sizes offsets count
+climbing {f} {sizes} {at} {offsets} r e =
+    subst (Climbing f sizes offsets) (sym e) (record { few = r .few; above = λ j l d low. edge-inside (r .wf) (node-there f sizes offsets l refl) low .above })
+
+module _ {f sizes offsets : List ℕ} {count : ℕ} (r : Climbing f sizes offsets count) (of : ℕ → ℕ → Number) where
   -- the table from number k on
   abbrev pub Ranked : ℕ → List ℕ → Type 0
-  Ranked k table = Filled (numberPass sizes of) ranked (actionIn f sizes at offsets .nodes) k table
+  Ranked k table = Filled (numberPass sizes of) ranked (nodesIn f sizes offsets 0 count) k table
 
   -- no entry yet
-  pub ranked-start : (n : ℕ) {k : ℕ} → k ≡ nodeCount f at → Ranked k (replicate n 0)
-  ranked-start n = table-start (numberPass sizes of) ranked f sizes offsets (nodeCount f at) n refl
+  pub ranked-start : (n : ℕ) {k : ℕ} → k ≡ count → Ranked k (replicate n 0)
+  ranked-start n = table-start (numberPass sizes of) ranked f sizes offsets count n refl
+
+  climbs : {j node : ℕ} → j < count → node ≡ getD offsets j 0 → Above (numberPass sizes of) (suc j) (nodeIn f sizes node)
+  climbs {j} l n =
+      let var = getD f (getD offsets j 0) 0 in
+      subst (λ (node : ℕ). Above (numberPass sizes of) (suc j) (nodeIn f sizes node)) (sym n) (λ k d a. r .above j l d (all-at (λ d. d < getD sizes var 0) (values-inside sizes var) a))
 
   -- one entry more
-  pub ranked-next : (e : ℕ) {j node k : ℕ} {table : List ℕ} → j < nodeCount f at → node ≡ getD offsets j 0 → k ≡ suc j → Ranked k table → k < length table
+  pub ranked-next : (e : ℕ) {j node k : ℕ} {table : List ℕ} → j < count → node ≡ getD offsets j 0 → k ≡ suc j → Ranked k table → k < length table
       → ranked e ≡ leastAt (numberPass sizes of) (nodeIn f sizes node) (λ t. ranked (getD table t 0)) → Ranked j (set table k e)
-  ranked-next e {node = node} l n =
-      table-next (numberPass sizes of) ranked f sizes offsets (nodeCount f at) e l n (edges-above (numberPass sizes of) (r .wf) (node-there f sizes offsets l n) (values-inside sizes (getD f node 0)))
+  ranked-next e l n = table-next (numberPass sizes of) ranked f sizes offsets count e l n (climbs l n)
 
   -- all entries
-  pub ranked-end : {incoming k : ℕ} {table : List ℕ} → incoming ≡ wordAt f (incomingPlace f at) → incoming ≤ maxWeight → k < 1 → Ranked k table
-      → sum (exact incoming) (ranked (getD table 1 0)) ≡ leastCostByPass sizes of (actionIn f sizes at offsets)
-  unfolding leastCostByPass
-  ranked-end {incoming} w small none full =
-      ap₂ sum (weight-exact incoming small ∙ ap capped w) (table-end (numberPass sizes of) ranked f sizes offsets (nodeCount f at) none full)
+  pub ranked-end : {k : ℕ} {table : List ℕ} → k < 1 → Ranked k table → ranked (getD table 1 0) ≡ leastFrom (numberPass sizes of) (nodesIn f sizes offsets 0 count) 1
+  ranked-end none full = table-end (numberPass sizes of) ranked f sizes offsets count none full
+
+-- the least cost of an action, from its parts
+pub cost-in-place : (f sizes : List ℕ) (at : ℕ) (offsets : List ℕ) (of : ℕ → ℕ → Number) {incoming count : ℕ} {least : Number} → incoming ≡ wordAt f (incomingPlace f at) → incoming ≤ maxWeight
+    → count ≡ nodeCount f at → least ≡ leastFrom (numberPass sizes of) (nodesIn f sizes offsets 0 count) 1 → sum (exact incoming) least ≡ leastCostByPass sizes of (actionIn f sizes at offsets)
+unfolding leastCostByPass
+cost-in-place f sizes at offsets of {incoming} w small c l =
+    ap₂ sum (weight-exact incoming small ∙ ap capped w) (l ∙ ap (λ (count : ℕ). leastFrom (numberPass sizes of) (nodesIn f sizes offsets 0 count) 1) c)
 
 -- ---- the offers of actions
 

@@ -1,4 +1,4 @@
-// The least cost of an action by the numbers of facts, in place: by one pass over its nodes from the last to the first.
+// The least from the first node of a diagram on by the numbers of facts, in place: by one pass over its nodes from the last to the first.
 use estimate::ranks::NEVER;
 use estimate::ranks::OVER;
 use estimate::ranks::lesser_rank;
@@ -7,7 +7,6 @@ use estimate::ranks::sum_rank;
 use facts::number::byte_at;
 use facts::number::offset_at;
 use taskfile::walk::Edge;
-use taskfile::walk::diagram_at;
 use taskfile::walk::edge_for;
 ghost use mathlib.Core.Path.{_≡_};
 ghost use mathlib.Core.Bool.{true};
@@ -18,30 +17,32 @@ ghost use Rattle.facts.specs.Lists.{upFrom};
 ghost use Rattle.facts.specs.Fields.{wordAt};
 ghost use Rattle.estimate.specs.Number.{never, lesser, ranked};
 ghost use Rattle.estimate.specs.Ranks.{rankNumber};
-ghost use Rattle.taskfile.specs.PartsInPlace.{nodeIn, actionIn};
+ghost use Rattle.taskfile.specs.PartsInPlace.{nodeIn, nodesIn};
 ghost use Rattle.relaxation.specs.Least.{leastOf};
-ghost use Rattle.relaxation.specs.Pass.{leastAt};
-ghost use Rattle.relaxation.specs.EstimatePass.{numberPass, leastCostByPass};
-ghost use Rattle.relaxation.specs.EstimateInPlace.{numberFor, Priceable};
+ghost use Rattle.relaxation.specs.Pass.{leastAt, leastFrom};
+ghost use Rattle.relaxation.specs.EstimatePass.{numberPass};
+ghost use Rattle.relaxation.specs.EstimateInPlace.{numberFor, Climbing};
 ghost use Rattle.relaxation.specs.Sums.{settledRank, Settled, Apart, EdgesInside};
 
 // Stands for never in sums of ranks: no sum of an edge's parts that are not never comes near it.
 const FAR: u64 = 1099511627776;
 
-// The rank of what the action at an offset, whose own nodes begin at the offsets `nodes`, costs at least by the numbers of these ranks. Entry k of the table is the
-// rank of the least from node k on; the terminal's is 0.
-pub fn least_cost(file: &[u8], sizes: &[u8], at: usize, nodes: &[usize], ranks: &[u64]) -> u64
-    requires { ⌜ Priceable (now file) (now sizes) at (now nodes) ⌝ }
-    ensures { λ r. ⌜ ranked r ≡ leastCostByPass (now (sizes .entry)) (rankNumber (now (ranks .entry))) (actionIn (now (file .entry)) (now (sizes .entry)) at (now (nodes .entry))) ⌝ }
+// The rank of the least from node 1 of a diagram on, of `count` nodes that begin at the offsets `nodes`, by the numbers of these ranks. Entry k of the table is the rank of the least from node k on; the
+// terminal's is 0.
+pub fn least_from(file: &[u8], sizes: &[u8], count: usize, nodes: &[usize], ranks: &[u64]) -> u64
+    requires { ⌜ Climbing (now file) (now sizes) (now nodes) count ⌝ }
+    ensures { λ r. ⌜ ranked r ≡ leastFrom (numberPass (now (sizes .entry)) (rankNumber (now (ranks .entry)))) (nodesIn (now (file .entry)) (now (sizes .entry)) (now (nodes .entry)) 0 count) 1 ⌝ }
 {
-    let diagram = diagram_at(file, at);
+    if count == 0 {
+        return 0; // no table is needed
+    }
     let mut least: [u64; 66] = [0; crate::NUMBERS];
-    let mut k = diagram.count;
+    let mut k = count;
     while 0 < k {
         least[k] = least_rank(file, sizes, offset_at(nodes, k - 1), ranks, &least);
         k -= 1;
     }
-    sum_rank(diagram.incoming as u64, least[1])
+    least[1]
 }
 
 // The rank of the least from the node at an offset on, over the values of its variable: an edge's weight, the value's number and the entry of the edge's target. It has no rank between over's and the

@@ -1,11 +1,12 @@
 // The estimate of a task, in place: one array of ranks, which actions lower in turn.
-use crate::price::least_cost;
+use crate::price::least_from;
 use estimate::Est;
 use estimate::ranks::NEVER;
 use estimate::ranks::UNSET;
 use estimate::ranks::ranked;
 use estimate::ranks::sum_rank;
 use facts::number::offset_within;
+use taskfile::walk::diagram_past;
 ghost use mathlib.Core.Path.{_≡_};
 ghost use Prim.Native.Nat.{ℕ, _<_};
 ghost use lib.ListN.{length, getD, drop};
@@ -153,6 +154,8 @@ fn offer_action(file: &[u8], sizes: &[u8], at: usize, nodes: &[usize], ranks: &m
         return false; // never is offered to no effect
     }
     let effect = known.end;
-    let offer = sum_rank(known.rank, least_cost(file, sizes, at, nodes, ranks));
+    let diagram = diagram_past(file, effect);
+    let least = least_from(file, sizes, diagram.count, nodes, ranks);
+    let offer = sum_rank(known.rank, sum_rank(diagram.incoming as u64, least));
     estimate::offers::lower_at(file, effect, offer, ranks)
 }
