@@ -1,7 +1,6 @@
 -- Laws of partial states that lie inside the file and have room among the ranks: they still do without their lowest standing bit, and sums of ranks below never's.
 use mathlib.Core.Path.{_≡_, refl, sym, _∙_}
 use Prim.Native.Nat.{ℕ, _+_, _*_, _-_, _/_, _^_, _≤_, _<_, min}
-use native.Mathlib.Nat.{lt-of-not-le, mul-le-mul-right}
 use native.Mathlib.Omega.{arith}
 use mathlib.Core.List.{List}
 use lib.Bits.{bitAnd, and-le-r}
@@ -9,19 +8,12 @@ use lib.Count.{ones-le}
 use lib.ListN.{length, getD}
 use lib.Pow.{pow-mono}
 use Rattle.facts.specs.Bits.{Lowest}
-use Rattle.facts.specs.BitsLaws.{ones-cleared}
+use Rattle.facts.specs.BitsLaws.{lowest-below, ones-cleared}
 use Rattle.estimate.specs.Number.{Number, never, sum, rank, ranked, over}
 use Rattle.estimate.specs.NumberLaws.{ranked-sum, sum-never-second}
 use Rattle.estimate.specs.Facts.{mostVariables, mostValues}
 use Rattle.estimate.specs.Ranks.{Inside}
 use Rattle.estimate.specs.OfferLaws.{Summing, summing-more, summing-never}
-
--- the lowest standing bit of a map is below what the map is below
-pub lowest-below : {m z a : ℕ} → Lowest m z a → (k : ℕ) → m < 2 ^ k → z < k
-lowest-below {m} {z} {a} e k l = lt-of-not-le (λ (g : k ≤ z). absurd (omega (arith, l, e .bits, pow-mono g, mul-le-mul-right (2 ^ z) one)))
-  where
-    one : 1 ≤ 2 * a + 1
-    one = omega arith
 
 -- a map with bits for such variables alone, of the first n, as have room among so many ranks, and enough bytes for its values
 pub inside-of : {f : List ℕ} {from map count few : ℕ} (n : ℕ) → few ≡ min (min n mostVariables) (count / mostValues) → map < 2 ^ few → map < 2 ^ 64 → from + 64 ≤ length f

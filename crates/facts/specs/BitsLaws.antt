@@ -2,14 +2,14 @@
 -- place is at its first variable and above it.
 use mathlib.Core.Path.{_≡_, refl, sym, ap, ap₂, _∙_}
 use Prim.Native.Nat.{ℕ, zero, suc, _+_, _-_, _*_, _/_, _%_, _^_, _≤_, _<_}
-use native.Mathlib.Nat.{pow-suc, add-mul, mul-assoc, mod-self}
+use native.Mathlib.Nat.{pow-suc, add-mul, mul-assoc, mod-self, lt-of-not-le, mul-le-mul-right}
 use native.Mathlib.Numerals.{add-one}
 use native.Mathlib.Omega.{arith}
 use mathlib.Core.List.{List, [], _∷_}
 use lib.Bits.{bitAnd, and-block, and-mask, and-self}
 use lib.Count.{ones, ones-step}
 use lib.ListN.{length, getD, take, drop, drop-of-length-le}
-use lib.Pow.{pow-pos}
+use lib.Pow.{pow-pos, pow-mono}
 use lib.Seq.{drop-cons, take-nil}
 use Rattle.facts.specs.Bits.{Lowest}
 use Rattle.facts.specs.Partial.{Partial, above, empty, standingAt}
@@ -75,6 +75,13 @@ ones-cleared {m} {z} {a} l = ap ones (l .bits) ∙ ones-shift (2 * a + 1) z ∙ 
 pub ones-none : {m : ℕ} → m ≡ 0 → ones m ≡ 0
 unfolding ones
 ones-none e = ap ones e
+
+-- the lowest standing bit of a map is below what the map is below
+pub lowest-below : {m z a : ℕ} → Lowest m z a → (k : ℕ) → m < 2 ^ k → z < k
+lowest-below {m} {z} {a} e k l = lt-of-not-le (λ (g : k ≤ z). absurd (omega (arith, l, e .bits, pow-mono g, mul-le-mul-right (2 ^ z) one)))
+  where
+    one : 1 ≤ 2 * a + 1
+    one = omega arith
 
 -- ---- a partial state in place
 

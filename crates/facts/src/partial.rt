@@ -133,8 +133,39 @@ pub fn value_end(file: &[u8], at: usize, size: u8) -> Past
     }
 }
 
-// Past the values for the standing bits of a map, from one standing bit to the next: each turn takes the lowest one away.
+// Past the values for the standing bits of a map: one test tells whether the file has all of them.
 fn values_end(file: &[u8], from: usize, map: u64, sizes: &[u8]) -> Past
+    requires { ⌜ (from ≤ length (now file)) × (map < 2 ^ length (now sizes)) ⌝ }
+    ensures { λ r. ⌜ pastAnswer r ≡ nextOf (readValues (now (file .entry)) (standing map (now (sizes .entry))) from) ⌝ }
+{
+    if file.len() - from < partial_length(map) - 8 {
+        return values_cut(file, from, map, sizes);
+    }
+    values_whole(file, from, map, sizes)
+}
+
+// The same, where the file has all of them, from one standing bit to the next: each turn takes the lowest one away.
+fn values_whole(file: &[u8], from: usize, map: u64, sizes: &[u8]) -> Past
+    requires { ⌜ (from + ones map ≤ length (now file)) × (map < 2 ^ length (now sizes)) ⌝ }
+    ensures { λ r. ⌜ pastAnswer r ≡ nextOf (readValues (now (file .entry)) (standing map (now (sizes .entry))) from) ⌝ }
+{
+    let mut at = from;
+    let mut rest = map;
+    while rest != 0 {
+        let bit = lowest_bit(rest);
+        let v = bit.zeros;
+        if file[at] < sizes[v] {
+            at += 1;
+            rest = rest & (rest - 1);
+            continue;
+        }
+        return Past::Refused(Refusal::Outside(at));
+    }
+    Past::Next(at)
+}
+
+// The same, value by value.
+fn values_cut(file: &[u8], from: usize, map: u64, sizes: &[u8]) -> Past
     ensures { λ r. ⌜ pastAnswer r ≡ nextOf (readValues (now (file .entry)) (standing map (now (sizes .entry))) from) ⌝ }
 {
     let mut at = from;

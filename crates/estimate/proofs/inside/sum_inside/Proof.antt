@@ -6,14 +6,14 @@ use lib.Bits.{and-le-r}
 use lib.Count.{ones, ones-le}
 use lib.ListN.{length}
 use borrow.Author.Needs.{needs}
-use Rattle.facts.specs.BitsLaws.{ones-cleared, ones-none}
+use Rattle.facts.specs.BitsLaws.{lowest-below, ones-cleared, ones-none}
 use Rattle.facts.specs.Partial.{standingAt, equal}
 use Rattle.estimate.specs.Number.{rank, ranked, over}
 use Rattle.estimate.specs.NumberLaws.{ranked-never}
 use Rattle.estimate.specs.Additive.{sumFrom}
 use Rattle.estimate.specs.Ranks.{rankNumber, Inside}
 use Rattle.estimate.specs.OfferLaws.{Summing, summing-start, summing-none, summing-more}
-use Rattle.estimate.specs.InsideLaws.{lowest-below, inside-value, inside-variable, inside-next, ranked-add, summing-fact-never}
+use Rattle.estimate.specs.InsideLaws.{inside-value, inside-variable, inside-next, ranked-add, summing-fact-never}
 use Rattle.estimate.proofs.inside.sum_inside.Statement.{statement}
 use Rattle.estimate.proofs.inside.sum_inside.Tie as tie
 

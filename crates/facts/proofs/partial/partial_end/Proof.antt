@@ -22,6 +22,9 @@ returns c = sym (partial-stray _ _ _ (map-is (c .before .before .before)) (leb-t
 add-values-end : tie.Need-add-values-end
 add-values-end c = omega (arith, number-read _ 8 _ (map-is (c .before .before .before)) .fits)
 
+values-end-requires : tie.Need-values-end-requires
+values-end-requires c κs = (omega (arith, number-read _ 8 _ (map-is (c .before .before .before)) .fits), leb-false _ _ (sym (c .before .stray .ensures) ∙ c .if1 .left))
+
 add-t15 : tie.Need-add-t15
 add-t15 c =
     let m = c .before .before .before .before .before .before .before in
@@ -52,7 +55,7 @@ partial-end-spec =
     (λ c κs. search needs)
     returns
     add-values-end
-    (λ c κs. search needs)
+    values-end-requires
     (λ c. search needs)
     (λ c. search needs)
     (λ c κs. search needs)
