@@ -15,18 +15,20 @@ use compile::Compiled;
 use estimate::Estimated;
 use facts::Checked;
 use facts::Ran;
+use probe::Probe;
 use report::Subject;
 use task::Costed;
+use taskfile::Task;
 
 // The most bytes that a written probe file has.
 const WRITTEN: usize = 13846;
 
 // One entry more than a list of actions, one of steps, and a state may have.
-const PLAN: usize = 257;
+const PLAN: usize = Task::MAX_LIST + 1;
 
-const LIST: usize = 6657;
+const LIST: usize = Probe::MAX_LIST + 1;
 
-const STATE: usize = 58;
+const STATE: usize = Probe::MAX_VARIABLES as usize + 1;
 
 // `check FILE`: the file is accepted.
 pub fn accepted() {

@@ -7,6 +7,7 @@ use crate::output::failed;
 use crate::output::refuse;
 use crate::output::write;
 use describe::Described;
+use probe::Probe;
 use report::Subject;
 
 // The most bytes of a task in words and of its diagrams, and of the steps of a list: more than any has.
@@ -15,7 +16,7 @@ const TASK_TEXT: usize = 65536;
 const STEPS_TEXT: usize = 524288;
 
 // One entry more than a list of steps may have.
-const LIST: usize = 6657;
+const LIST: usize = Probe::MAX_LIST + 1;
 
 // A text that was written into a buffer, or the refusal.
 fn described(answer: Described, text: &[u8], subject: Subject, explain: bool) {

@@ -116,6 +116,7 @@ pub fn save(i: usize, bytes: &[u8]) {
     let written = io::write_all(fd, bytes);
     if !written {
         os::fail(&name[..length]);
+        libc::close(fd);
         return failed();
     }
     libc::close(fd);
