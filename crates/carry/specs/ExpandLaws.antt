@@ -18,12 +18,11 @@ use Rattle.facts.specs.State.{Inside}
 use Rattle.facts.specs.Write.{over, Wrote}
 use Rattle.facts.specs.Run.{next as went, attempt, atMost}
 use Rattle.facts.specs.RunLaws.{attempt-next, attempt-blocked, not-blocked, list-long}
-use Rattle.taskfile.specs.declared.Task.{Task as Index}
 use Rattle.taskfile.specs.Task.{Action, Task, Walk, maxList, maxNodes, taskSum, Plan, WfAction}
 use Rattle.taskfile.specs.TaskFile.{readTask, checkTask, runTask}
 use Rattle.taskfile.specs.TaskReadLaws.{task-wf, task-limits}
 use Rattle.taskfile.specs.TaskLaws.{task-plan}
-use Rattle.taskfile.specs.Index.{Ready}
+use Rattle.taskfile.specs.Index.{Index, Ready}
 use Rattle.taskfile.specs.WalkInPlace.{incomingPlace, walkAt, performBy, performAt}
 use Rattle.taskfile.specs.AnswerLaws.{there as task-there}
 use Rattle.compilation.specs.Compile.{stepCount}

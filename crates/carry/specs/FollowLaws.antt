@@ -18,10 +18,9 @@ use Rattle.facts.specs.Partial.{Partial, holds, apply, partialAt}
 use Rattle.facts.specs.PartialLaws.{apply-inside, length-apply}
 use Rattle.facts.specs.State.{Inside}
 use Rattle.facts.specs.Run.{runFrom}
-use Rattle.taskfile.specs.declared.Task.{Task as Index}
 use Rattle.taskfile.specs.Task.{Action, Task, WfAction, maxWeight, maxList, taskSum}
 use Rattle.taskfile.specs.TaskLaws.{task-plan}
-use Rattle.taskfile.specs.Index.{Ready}
+use Rattle.taskfile.specs.Index.{Index, Ready}
 use Rattle.taskfile.specs.AnswerLaws.{there as task-there, starts, starts-count}
 use Rattle.taskfile.specs.MoveInPlaceLaws.{sum-in-place}
 use Rattle.taskfile.specs.WalkInPlace.{wayFrom, maxWalk, moveBy, moveAt}

@@ -12,9 +12,8 @@ use lib.Seq.{length-take-le, drop-cons, getD-set-same, getD-set-other, getD-take
 use borrow.Author.Tests.{eqb-true, eqb-false}
 use Rattle.facts.specs.Read.{_>>=_}
 use Rattle.facts.specs.Lists.{total}
-use Rattle.taskfile.specs.declared.Task.{Task as Index}
 use Rattle.taskfile.specs.Task.{Action, Task}
-use Rattle.taskfile.specs.Index.{Ready}
+use Rattle.taskfile.specs.Index.{Index, Ready}
 use Rattle.taskfile.specs.TaskReadLaws.{task-wf, task-limits}
 use Rattle.taskfile.specs.AnswerLaws.{there as task-there}
 use Rattle.compilation.specs.Compile.{stepCount}

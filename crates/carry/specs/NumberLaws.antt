@@ -10,10 +10,9 @@ use lib.Seq.{length-take-le, take-all, take-append-seam, getD-append-add, getD-t
 use borrow.Rule.Slice.PartMut.{putMid, postOf, take-put}
 use Rattle.facts.specs.Lists.{total, At, here, there}
 use Rattle.facts.specs.ListLaws.{at-length}
-use Rattle.taskfile.specs.declared.Task.{Task as Index}
 use Rattle.taskfile.specs.Task.{Node, Action, Task, maxNodes, WfAction}
 use Rattle.taskfile.specs.TaskReadLaws.{task-wf, task-limits}
-use Rattle.taskfile.specs.Index.{Ready}
+use Rattle.taskfile.specs.Index.{Index, Ready}
 use Rattle.taskfile.specs.AnswerLaws.{there as task-there}
 use Rattle.taskfile.specs.MoveInPlaceLaws.{own-nodes}
 use Rattle.taskfile.specs.WalkInPlace.{nodeCount}

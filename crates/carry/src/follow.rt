@@ -16,7 +16,7 @@ ghost use mathlib.Core.Path.{_≡_};
 ghost use Prim.Native.Nat.{_+_, _≤_, _<_};
 ghost use lib.ListN.{length, getD};
 ghost use Rattle.facts.specs.State.{Inside};
-ghost use Rattle.taskfile.specs.Index.{Ready};
+ghost use Rattle.taskfile.specs.Index.{indexOf, Ready};
 ghost use Rattle.taskfile.specs.Task.{maxList};
 ghost use Rattle.taskfile.specs.WalkInPlace.{maxPassed};
 ghost use Rattle.taskfile.specs.PartsInPlace.{nodesIn, actionIn};
@@ -39,15 +39,16 @@ pub fn follow_plan(
     file: &[u8],
     variables: usize,
     actions: usize,
-    starts: &[usize],
-    firsts: &[usize],
-    nodes: &[usize],
+    row: &[usize],
     list: &[u16],
     plan: &mut [u16],
 ) -> Followed
-    requires { ⌜ Ready (now file) (record { variables = variables; actions = actions; starts = now starts; firsts = now firsts; nodes = now nodes }) × (length (now plan) ≤ maxList) ⌝ }
+    requires { ⌜ Ready (now file) (indexOf variables actions (now row)) × (length (now plan) ≤ maxList) ⌝ }
     ensures { λ r. ⌜ ContractsTo (now (file .entry)) (now (list .entry)) (now (plan .exit)) r ⌝ }
 {
+    let starts = &row[..Task::FIRSTS];
+    let firsts = &row[Task::FIRSTS..Task::NODES];
+    let nodes = &row[Task::NODES..Task::ROW];
     let last = 1 + variables;
     let sizes = &file[1..last];
     let action_at = &starts[..actions];

@@ -14,7 +14,7 @@ ghost use mathlib.Core.Path.{_≡_};
 ghost use Prim.Native.Nat.{_*_, _≤_};
 ghost use lib.ListN.{length};
 ghost use Rattle.taskfile.specs.Task.{maxList};
-ghost use Rattle.taskfile.specs.Index.{Ready};
+ghost use Rattle.taskfile.specs.Index.{indexOf, Ready};
 ghost use Rattle.carry.specs.CarryFile.{expanded, contracted, answerIn, bufferIn};
 ghost use Rattle.carry.specs.InPlace.{maxEntries};
 ghost use Rattle.carry.specs.Answers.{carriedAnswer};
@@ -37,20 +37,15 @@ pub fn expand(file: &[u8], list: &[u16], out: &mut [u16]) -> Carried
     ensures { λ r. ⌜ carriedAnswer r ≡ answerIn (length (now (out .entry))) (expanded (now (file .entry)) (now (list .entry))) ⌝ }
     ensures { λ r. ⌜ now (out .exit) ≡ bufferIn (now (out .entry)) (expanded (now (file .entry)) (now (list .entry))) ⌝ }
 {
-    let mut starts = [0; Task::PLACES];
-    let mut firsts = [0; 32];
-    let mut nodes = [0; 64];
-    let counted = taskfile::index_in(file, &mut starts, &mut firsts, &mut nodes);
-    match counted {
+    let mut row = [0; Task::ROW];
+    match taskfile::index_in(file, &mut row) {
         Counted::Refused(why) => Carried::Refused(why),
         Counted::Actions(variables, actions) => {
             expand_in(
                 file,
                 variables,
                 actions,
-                &starts,
-                &firsts,
-                &nodes,
+                &row,
                 list,
                 out,
             )
@@ -63,13 +58,11 @@ fn expand_in(
     file: &[u8],
     variables: usize,
     actions: usize,
-    starts: &[usize],
-    firsts: &[usize],
-    nodes: &[usize],
+    row: &[usize],
     list: &[u16],
     out: &mut [u16],
 ) -> Carried
-    requires { ⌜ Ready (now file) (record { variables = variables; actions = actions; starts = now starts; firsts = now firsts; nodes = now nodes }) ⌝ }
+    requires { ⌜ Ready (now file) (indexOf variables actions (now row)) ⌝ }
     ensures { λ r. ⌜ carriedAnswer r ≡ answerIn (length (now (out .entry))) (expanded (now (file .entry)) (now (list .entry))) ⌝ }
     ensures { λ r. ⌜ now (out .exit) ≡ bufferIn (now (out .entry)) (expanded (now (file .entry)) (now (list .entry))) ⌝ }
 {
@@ -82,9 +75,7 @@ fn expand_in(
             file,
             variables,
             actions,
-            starts,
-            firsts,
-            nodes,
+            row,
             list,
             &mut few,
             out,
@@ -95,9 +86,7 @@ fn expand_in(
         file,
         variables,
         actions,
-        starts,
-        firsts,
-        nodes,
+        row,
         list,
         &mut many,
         out,
@@ -109,18 +98,16 @@ fn expand_by(
     file: &[u8],
     variables: usize,
     actions: usize,
-    starts: &[usize],
-    firsts: &[usize],
-    nodes: &[usize],
+    row: &[usize],
     list: &[u16],
     room: &mut [u16],
     out: &mut [u16],
 ) -> Carried
-    requires { ⌜ Ready (now file) (record { variables = variables; actions = actions; starts = now starts; firsts = now firsts; nodes = now nodes }) × (length (now list) ≤ maxList) × (maxEntries * length (now list) ≤ length (now room)) ⌝ }
+    requires { ⌜ Ready (now file) (indexOf variables actions (now row)) × (length (now list) ≤ maxList) × (maxEntries * length (now list) ≤ length (now room)) ⌝ }
     ensures { λ r. ⌜ carriedAnswer r ≡ answerIn (length (now (out .entry))) (expanded (now (file .entry)) (now (list .entry))) ⌝ }
     ensures { λ r. ⌜ now (out .exit) ≡ bufferIn (now (out .entry)) (expanded (now (file .entry)) (now (list .entry))) ⌝ }
 {
-    let listed = plan::put_plan(file, variables, actions, starts, firsts, nodes, list, room);
+    let listed = plan::put_plan(file, variables, actions, row, list, room);
     let answer = listed.answer;
     let written = listed.written;
     match answer {
@@ -141,20 +128,15 @@ pub fn contract(file: &[u8], list: &[u16], out: &mut [u16]) -> Carried
     ensures { λ r. ⌜ carriedAnswer r ≡ answerIn (length (now (out .entry))) (contracted (now (file .entry)) (now (list .entry))) ⌝ }
     ensures { λ r. ⌜ now (out .exit) ≡ bufferIn (now (out .entry)) (contracted (now (file .entry)) (now (list .entry))) ⌝ }
 {
-    let mut starts = [0; Task::PLACES];
-    let mut firsts = [0; 32];
-    let mut nodes = [0; 64];
-    let counted = taskfile::index_in(file, &mut starts, &mut firsts, &mut nodes);
-    match counted {
+    let mut row = [0; Task::ROW];
+    match taskfile::index_in(file, &mut row) {
         Counted::Refused(why) => Carried::Refused(why),
         Counted::Actions(variables, actions) => {
             contract_in(
                 file,
                 variables,
                 actions,
-                &starts,
-                &firsts,
-                &nodes,
+                &row,
                 list,
                 out,
             )
@@ -168,13 +150,11 @@ fn contract_in(
     file: &[u8],
     variables: usize,
     actions: usize,
-    starts: &[usize],
-    firsts: &[usize],
-    nodes: &[usize],
+    row: &[usize],
     list: &[u16],
     out: &mut [u16],
 ) -> Carried
-    requires { ⌜ Ready (now file) (record { variables = variables; actions = actions; starts = now starts; firsts = now firsts; nodes = now nodes }) ⌝ }
+    requires { ⌜ Ready (now file) (indexOf variables actions (now row)) ⌝ }
     ensures { λ r. ⌜ carriedAnswer r ≡ answerIn (length (now (out .entry))) (contracted (now (file .entry)) (now (list .entry))) ⌝ }
     ensures { λ r. ⌜ now (out .exit) ≡ bufferIn (now (out .entry)) (contracted (now (file .entry)) (now (list .entry))) ⌝ }
 {
@@ -183,9 +163,7 @@ fn contract_in(
         file,
         variables,
         actions,
-        starts,
-        firsts,
-        nodes,
+        row,
         list,
         &mut plan,
     ) {
@@ -193,9 +171,7 @@ fn contract_in(
             file,
             variables,
             actions,
-            starts,
-            firsts,
-            nodes,
+            row,
             list,
             out,
         ),
@@ -214,13 +190,11 @@ fn contract_written(
     file: &[u8],
     variables: usize,
     actions: usize,
-    starts: &[usize],
-    firsts: &[usize],
-    nodes: &[usize],
+    row: &[usize],
     list: &[u16],
     out: &mut [u16],
 ) -> Carried
-    requires { ⌜ Ready (now file) (record { variables = variables; actions = actions; starts = now starts; firsts = now firsts; nodes = now nodes }) ⌝ }
+    requires { ⌜ Ready (now file) (indexOf variables actions (now row)) ⌝ }
     ensures { λ r. ⌜ carriedAnswer r ≡ answerIn (length (now (out .entry))) (contracted (now (file .entry)) (now (list .entry))) ⌝ }
     ensures { λ r. ⌜ now (out .exit) ≡ bufferIn (now (out .entry)) (contracted (now (file .entry)) (now (list .entry))) ⌝ }
 {
@@ -233,9 +207,7 @@ fn contract_written(
                 file,
                 variables,
                 actions,
-                starts,
-                firsts,
-                nodes,
+                row,
                 list,
                 sum,
                 out,

@@ -16,7 +16,7 @@ ghost use Rattle.facts.specs.Partial.{partialAt};
 ghost use Rattle.facts.specs.State.{Inside};
 ghost use Rattle.facts.specs.Write.{Wrote};
 ghost use Rattle.taskfile.specs.Task.{maxList};
-ghost use Rattle.taskfile.specs.Index.{Ready};
+ghost use Rattle.taskfile.specs.Index.{indexOf, Ready};
 ghost use Rattle.taskfile.specs.TaskFile.{runTask};
 ghost use Rattle.taskfile.specs.WalkInPlace.{moveAt, runList};
 ghost use Rattle.taskfile.specs.PartsInPlace.{actionsIn};
@@ -34,20 +34,21 @@ pub fn put_plan(
     file: &[u8],
     variables: usize,
     actions: usize,
-    starts: &[usize],
-    firsts: &[usize],
-    nodes: &[usize],
+    row: &[usize],
     list: &[u16],
     out: &mut [u16],
 ) -> Listed
-    requires { ⌜ Ready (now file) (record { variables = variables; actions = actions; starts = now starts; firsts = now firsts; nodes = now nodes }) × (length (now list) ≤ maxList) × (maxEntries * length (now list) ≤ length (now out)) ⌝ }
+    requires { ⌜ Ready (now file) (indexOf variables actions (now row)) × (length (now list) ≤ maxList) × (maxEntries * length (now list) ≤ length (now out)) ⌝ }
     ensures { λ r. ⌜ ranAnswer (r .answer) ≡ runTask (now (file .entry)) (now (list .entry)) ⌝ }
     ensures { λ r. ⌜ WroteIf (runTask (now (file .entry)) (now (list .entry))) (expansion (now (file .entry)) (now (list .entry))) (now (out .entry)) (now (out .exit)) (r .written) ⌝ }
 {
+    let starts = &row[..Task::FIRSTS];
+    let firsts = &row[Task::FIRSTS..Task::NODES];
+    let nodes = &row[Task::NODES..Task::ROW];
     let last = 1 + variables;
     let sizes = &file[1..last];
     let action_at = &starts[..actions];
-    let incoming_at = &starts[Task::INCOMING..Task::PLACES];
+    let incoming_at = &starts[Task::INCOMING..Task::FIRSTS];
     let mut first_step = [0; 33];
     let mut first_edge = [0; 64];
     number_steps(

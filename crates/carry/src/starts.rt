@@ -11,7 +11,7 @@ ghost use Prim.Native.Nat.{ℕ, _+_, _≤_, _<_};
 ghost use lib.ListN.{length, getD, replicate};
 ghost use Rattle.facts.specs.Lists.{total};
 ghost use Rattle.facts.specs.Write.{Wrote};
-ghost use Rattle.taskfile.specs.Index.{Ready};
+ghost use Rattle.taskfile.specs.Index.{indexOf, Ready};
 ghost use Rattle.taskfile.specs.PartsInPlace.{nodesIn, actionsIn};
 ghost use Rattle.compilation.specs.Compile.{edgeCount};
 ghost use Rattle.carry.specs.CarryFile.{contracted, answerIn, bufferIn};
@@ -88,14 +88,12 @@ pub fn contract_plan(
     file: &[u8],
     variables: usize,
     actions: usize,
-    starts: &[usize],
-    firsts: &[usize],
-    nodes: &[usize],
+    row: &[usize],
     list: &[u16],
     sum: u32,
     out: &mut [u16],
 ) -> Carried
-    requires { ⌜ Ready (now file) (record { variables = variables; actions = actions; starts = now starts; firsts = now firsts; nodes = now nodes }) × ProbePlanOf (now file) (now list) sum ⌝ }
+    requires { ⌜ Ready (now file) (indexOf variables actions (now row)) × ProbePlanOf (now file) (now list) sum ⌝ }
     ensures { λ r. ⌜ carriedAnswer r ≡ answerIn (length (now (out .entry))) (contracted (now (file .entry)) (now (list .entry))) ⌝ }
     ensures { λ r. ⌜ now (out .exit) ≡ bufferIn (now (out .entry)) (contracted (now (file .entry)) (now (list .entry))) ⌝ }
 {
@@ -104,9 +102,7 @@ pub fn contract_plan(
         file,
         variables,
         actions,
-        starts,
-        firsts,
-        nodes,
+        row,
         &mut action_of,
     );
     match count_starts(&action_of, list) {
@@ -125,14 +121,15 @@ fn note_starts(
     file: &[u8],
     variables: usize,
     actions: usize,
-    starts: &[usize],
-    firsts: &[usize],
-    nodes: &[usize],
+    row: &[usize],
     action_of: &mut [u8],
 )
-    requires { ⌜ Ready (now file) (record { variables = variables; actions = actions; starts = now starts; firsts = now firsts; nodes = now nodes }) × (now «action_of» ≡ replicate 576 0) ⌝ }
+    requires { ⌜ Ready (now file) (indexOf variables actions (now row)) × (now «action_of» ≡ replicate 576 0) ⌝ }
     ensures { λ r. ⌜ NotedIn (now (file .entry)) (now («action_of» .exit)) ⌝ }
 {
+    let starts = &row[..Task::FIRSTS];
+    let firsts = &row[Task::FIRSTS..Task::NODES];
+    let nodes = &row[Task::NODES..Task::ROW];
     let last = 1 + variables;
     let mut first_step = [0; 33];
     let mut first_edge = [0; 64];

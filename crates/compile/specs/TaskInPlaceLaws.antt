@@ -15,10 +15,9 @@ use Rattle.facts.specs.PartialLaws.{inside-length}
 use Rattle.facts.specs.Write.{over, Wrote}
 use Rattle.facts.specs.WriteLaws.{fitting-all, fitting-none, wrote-inside, wrote-room, wrote-then}
 use Rattle.facts.specs.Fields.{writeEach, writeHead}
-use Rattle.taskfile.specs.declared.Task.{Task as Index}
 use Rattle.taskfile.specs.Task.{Action, Task}
 use Rattle.taskfile.specs.TaskFile.{readTask, checkTask}
-use Rattle.taskfile.specs.Index.{Ready}
+use Rattle.taskfile.specs.Index.{Index, Ready}
 use Rattle.taskfile.specs.WalkInPlace.{nodeCount}
 use Rattle.taskfile.specs.WalkInPlaceLaws.{count-is}
 use Rattle.taskfile.specs.TaskReadLaws.{task-wf}

@@ -12,7 +12,7 @@ use taskfile::Counted;
 use taskfile::Task;
 ghost use mathlib.Core.Path.{_≡_};
 ghost use lib.ListN.{length};
-ghost use Rattle.taskfile.specs.Index.{Ready};
+ghost use Rattle.taskfile.specs.Index.{indexOf, Ready};
 ghost use Rattle.compile.specs.CompileFile.{compileFile, compiledBuffer, compiledAnswer};
 
 // The length of the file that was written, or the refusal.
@@ -26,14 +26,11 @@ pub fn compile(file: &[u8], out: &mut [u8]) -> Compiled
     ensures { λ r. ⌜ compiledAnswer r ≡ compileFile (now (file .entry)) (length (now (out .entry))) ⌝ }
     ensures { λ r. ⌜ now (out .exit) ≡ compiledBuffer (now (file .entry)) (now (out .entry)) ⌝ }
 {
-    let mut starts = [0; Task::PLACES];
-    let mut firsts = [0; 32];
-    let mut nodes = [0; 64];
-    let counted = taskfile::index_in(file, &mut starts, &mut firsts, &mut nodes);
-    match counted {
+    let mut row = [0; Task::ROW];
+    match taskfile::index_in(file, &mut row) {
         Counted::Refused(why) => Compiled::Refused(why),
         Counted::Actions(variables, actions) => {
-            compile_in(file, variables, actions, &starts, &firsts, &nodes, out)
+            compile_in(file, variables, actions, &row, out)
         }
     }
 }
@@ -43,20 +40,21 @@ fn compile_in(
     file: &[u8],
     variables: usize,
     actions: usize,
-    starts: &[usize],
-    firsts: &[usize],
-    nodes: &[usize],
+    row: &[usize],
     out: &mut [u8],
 ) -> Compiled
-    requires { ⌜ Ready (now file) (record { variables = variables; actions = actions; starts = now starts; firsts = now firsts; nodes = now nodes }) ⌝ }
+    requires { ⌜ Ready (now file) (indexOf variables actions (now row)) ⌝ }
     ensures { λ r. ⌜ compiledAnswer r ≡ compileFile (now (file .entry)) (length (now (out .entry))) ⌝ }
     ensures { λ r. ⌜ now (out .exit) ≡ compiledBuffer (now (file .entry)) (now (out .entry)) ⌝ }
 {
+    let starts = &row[..Task::FIRSTS];
+    let firsts = &row[Task::FIRSTS..Task::NODES];
+    let nodes = &row[Task::NODES..Task::ROW];
     let last = 1 + variables;
     let sizes = &file[1..last];
     let action_at = &starts[..actions];
     let effect_at = &starts[Task::EFFECTS..Task::INCOMING];
-    let incoming_at = &starts[Task::INCOMING..Task::PLACES];
+    let incoming_at = &starts[Task::INCOMING..Task::FIRSTS];
     let extent = extent_of(file, sizes, action_at, incoming_at, firsts, nodes);
     let needed = head::head_length(file, variables, actions) + extent.bytes;
     if out.len() < needed {

@@ -9,10 +9,9 @@ use Rattle.facts.specs.Read.{Read, accepted, refused}
 use Rattle.facts.specs.ReadLaws.{not-made}
 use Rattle.facts.specs.ListLaws.{look}
 use Rattle.facts.specs.Partial.{partialAt}
-use Rattle.taskfile.specs.declared.Task.{Task as Index}
 use Rattle.taskfile.specs.Task.{Action, Task}
 use Rattle.taskfile.specs.TaskFile.{readTask, checkTask, actionOf}
-use Rattle.taskfile.specs.Index.{Ready}
+use Rattle.taskfile.specs.Index.{Index, Ready}
 use Rattle.taskfile.specs.AnswerLaws.{there, starts, sizes-there, starts-count}
 use Rattle.taskfile.specs.PartsInPlace.{actionsIn}
 use Rattle.taskfile.specs.PartsInPlaceLaws.{at-some, action-here, located, actions-in-place}

@@ -9,7 +9,7 @@ use taskfile::Task;
 use text::append::append;
 ghost use mathlib.Core.Path.{_≡_};
 ghost use lib.ListN.{length};
-ghost use Rattle.taskfile.specs.Index.{Ready};
+ghost use Rattle.taskfile.specs.Index.{indexOf, Ready};
 ghost use Rattle.describe.specs.DescribeFile.{shown, drawn, drawnAction, lengthIn, textIn};
 ghost use Rattle.describe.specs.Answers.{describedAnswer};
 
@@ -24,14 +24,11 @@ pub fn show(file: &[u8], out: &mut [u8]) -> Described
     ensures { λ r. ⌜ describedAnswer r ≡ lengthIn (length (now (out .entry))) (shown (now (file .entry))) ⌝ }
     ensures { λ r. ⌜ now (out .exit) ≡ textIn (now (out .entry)) (shown (now (file .entry))) ⌝ }
 {
-    let mut starts = [0; Task::PLACES];
-    let mut firsts = [0; 32];
-    let mut nodes = [0; 64];
-    let counted = taskfile::index_in(file, &mut starts, &mut firsts, &mut nodes);
-    match counted {
+    let mut row = [0; Task::ROW];
+    match taskfile::index_in(file, &mut row) {
         Counted::Refused(why) => Described::Refused(why),
         Counted::Actions(variables, actions) => {
-            show_in(file, variables, actions, &starts, &firsts, &nodes, out)
+            show_in(file, variables, actions, &row, out)
         }
     }
 }
@@ -41,15 +38,16 @@ fn show_in(
     file: &[u8],
     variables: usize,
     actions: usize,
-    starts: &[usize],
-    firsts: &[usize],
-    nodes: &[usize],
+    row: &[usize],
     out: &mut [u8],
 ) -> Described
-    requires { ⌜ Ready (now file) (record { variables = variables; actions = actions; starts = now starts; firsts = now firsts; nodes = now nodes }) ⌝ }
+    requires { ⌜ Ready (now file) (indexOf variables actions (now row)) ⌝ }
     ensures { λ r. ⌜ describedAnswer r ≡ lengthIn (length (now (out .entry))) (shown (now (file .entry))) ⌝ }
     ensures { λ r. ⌜ now (out .exit) ≡ textIn (now (out .entry)) (shown (now (file .entry))) ⌝ }
 {
+    let starts = &row[..Task::FIRSTS];
+    let firsts = &row[Task::FIRSTS..Task::NODES];
+    let nodes = &row[Task::NODES..Task::ROW];
     let last = 1 + variables;
     let goal = last + variables;
     let sizes = &file[1..last];
@@ -66,14 +64,11 @@ pub fn draw(file: &[u8], out: &mut [u8]) -> Described
     ensures { λ r. ⌜ describedAnswer r ≡ lengthIn (length (now (out .entry))) (drawn (now (file .entry))) ⌝ }
     ensures { λ r. ⌜ now (out .exit) ≡ textIn (now (out .entry)) (drawn (now (file .entry))) ⌝ }
 {
-    let mut starts = [0; Task::PLACES];
-    let mut firsts = [0; 32];
-    let mut nodes = [0; 64];
-    let counted = taskfile::index_in(file, &mut starts, &mut firsts, &mut nodes);
-    match counted {
+    let mut row = [0; Task::ROW];
+    match taskfile::index_in(file, &mut row) {
         Counted::Refused(why) => Described::Refused(why),
         Counted::Actions(variables, actions) => {
-            draw_in(file, variables, actions, &starts, &firsts, &nodes, out)
+            draw_in(file, variables, actions, &row, out)
         }
     }
 }
@@ -83,15 +78,16 @@ fn draw_in(
     file: &[u8],
     variables: usize,
     actions: usize,
-    starts: &[usize],
-    firsts: &[usize],
-    nodes: &[usize],
+    row: &[usize],
     out: &mut [u8],
 ) -> Described
-    requires { ⌜ Ready (now file) (record { variables = variables; actions = actions; starts = now starts; firsts = now firsts; nodes = now nodes }) ⌝ }
+    requires { ⌜ Ready (now file) (indexOf variables actions (now row)) ⌝ }
     ensures { λ r. ⌜ describedAnswer r ≡ lengthIn (length (now (out .entry))) (drawn (now (file .entry))) ⌝ }
     ensures { λ r. ⌜ now (out .exit) ≡ textIn (now (out .entry)) (drawn (now (file .entry))) ⌝ }
 {
+    let starts = &row[..Task::FIRSTS];
+    let firsts = &row[Task::FIRSTS..Task::NODES];
+    let nodes = &row[Task::NODES..Task::ROW];
     let last = 1 + variables;
     let action_at = &starts[..actions];
     let end = dot::put_drawing(
@@ -112,20 +108,15 @@ pub fn draw_action(file: &[u8], action: usize, out: &mut [u8]) -> Described
     ensures { λ r. ⌜ describedAnswer r ≡ lengthIn (length (now (out .entry))) (drawnAction (now (file .entry)) action) ⌝ }
     ensures { λ r. ⌜ now (out .exit) ≡ textIn (now (out .entry)) (drawnAction (now (file .entry)) action) ⌝ }
 {
-    let mut starts = [0; Task::PLACES];
-    let mut firsts = [0; 32];
-    let mut nodes = [0; 64];
-    let counted = taskfile::index_in(file, &mut starts, &mut firsts, &mut nodes);
-    match counted {
+    let mut row = [0; Task::ROW];
+    match taskfile::index_in(file, &mut row) {
         Counted::Refused(why) => Described::Refused(why),
         Counted::Actions(variables, actions) => {
             draw_one_in(
                 file,
                 variables,
                 actions,
-                &starts,
-                &firsts,
-                &nodes,
+                &row,
                 action,
                 out,
             )
@@ -138,16 +129,17 @@ fn draw_one_in(
     file: &[u8],
     variables: usize,
     actions: usize,
-    starts: &[usize],
-    firsts: &[usize],
-    nodes: &[usize],
+    row: &[usize],
     action: usize,
     out: &mut [u8],
 ) -> Described
-    requires { ⌜ Ready (now file) (record { variables = variables; actions = actions; starts = now starts; firsts = now firsts; nodes = now nodes }) ⌝ }
+    requires { ⌜ Ready (now file) (indexOf variables actions (now row)) ⌝ }
     ensures { λ r. ⌜ describedAnswer r ≡ lengthIn (length (now (out .entry))) (drawnAction (now (file .entry)) action) ⌝ }
     ensures { λ r. ⌜ now (out .exit) ≡ textIn (now (out .entry)) (drawnAction (now (file .entry)) action) ⌝ }
 {
+    let starts = &row[..Task::FIRSTS];
+    let firsts = &row[Task::FIRSTS..Task::NODES];
+    let nodes = &row[Task::NODES..Task::ROW];
     if actions <= action {
         return Described::Refused(Refusal::Missing(0));
     }

@@ -10,10 +10,9 @@ use borrow.Author.Tests.{le-leb, lt-leb}
 use Rattle.facts.specs.Read.{Read, accepted, refused, _>>=_}
 use Rattle.facts.specs.ReadLaws.{not-made}
 use Rattle.facts.specs.Run.{atMost}
-use Rattle.taskfile.specs.declared.Task.{Task as Index}
 use Rattle.taskfile.specs.Task.{Task}
 use Rattle.taskfile.specs.TaskFile.{readTask, checkTask}
-use Rattle.taskfile.specs.Index.{Ready}
+use Rattle.taskfile.specs.Index.{Index, Ready}
 use Rattle.taskfile.specs.AnswerLaws.{there}
 use Rattle.text.specs.Append.{Adds}
 use Rattle.text.specs.AppendLaws.{Adding, adding-start, adding-more, adding-end}

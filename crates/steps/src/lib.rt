@@ -10,7 +10,7 @@ use taskfile::Counted;
 use taskfile::Task;
 ghost use mathlib.Core.Path.{_≡_};
 ghost use lib.ListN.{length};
-ghost use Rattle.taskfile.specs.Index.{Ready};
+ghost use Rattle.taskfile.specs.Index.{indexOf, Ready};
 ghost use Rattle.describe.specs.Answers.{describedAnswer};
 ghost use Rattle.describe.specs.DescribeFile.{lengthIn, textIn};
 ghost use Rattle.steps.specs.NamedFile.{named};
@@ -20,20 +20,15 @@ pub fn name_steps(file: &[u8], list: &[u16], out: &mut [u8]) -> Described
     ensures { λ r. ⌜ describedAnswer r ≡ lengthIn (length (now (out .entry))) (named (now (file .entry)) (now (list .entry))) ⌝ }
     ensures { λ r. ⌜ now (out .exit) ≡ textIn (now (out .entry)) (named (now (file .entry)) (now (list .entry))) ⌝ }
 {
-    let mut starts = [0; Task::PLACES];
-    let mut firsts = [0; 32];
-    let mut nodes = [0; 64];
-    let counted = taskfile::index_in(file, &mut starts, &mut firsts, &mut nodes);
-    match counted {
+    let mut row = [0; Task::ROW];
+    match taskfile::index_in(file, &mut row) {
         Counted::Refused(why) => Described::Refused(why),
         Counted::Actions(variables, actions) => {
             name_in(
                 file,
                 variables,
                 actions,
-                &starts,
-                &firsts,
-                &nodes,
+                &row,
                 list,
                 out,
             )
@@ -46,16 +41,17 @@ fn name_in(
     file: &[u8],
     variables: usize,
     actions: usize,
-    starts: &[usize],
-    firsts: &[usize],
-    nodes: &[usize],
+    row: &[usize],
     list: &[u16],
     out: &mut [u8],
 ) -> Described
-    requires { ⌜ Ready (now file) (record { variables = variables; actions = actions; starts = now starts; firsts = now firsts; nodes = now nodes }) ⌝ }
+    requires { ⌜ Ready (now file) (indexOf variables actions (now row)) ⌝ }
     ensures { λ r. ⌜ describedAnswer r ≡ lengthIn (length (now (out .entry))) (named (now (file .entry)) (now (list .entry))) ⌝ }
     ensures { λ r. ⌜ now (out .exit) ≡ textIn (now (out .entry)) (named (now (file .entry)) (now (list .entry))) ⌝ }
 {
+    let starts = &row[..Task::FIRSTS];
+    let firsts = &row[Task::FIRSTS..Task::NODES];
+    let nodes = &row[Task::NODES..Task::ROW];
     if Probe::MAX_LIST < list.len() {
         return Described::Refused(Refusal::Long(Probe::MAX_LIST));
     }

@@ -14,10 +14,9 @@ use Rattle.estimate.specs.Number.{Number}
 use Rattle.estimate.specs.Additive.{additive}
 use Rattle.estimate.specs.AdditiveLaws.{estimate-refused, estimate-turned-down, estimate-answers}
 use Rattle.estimate.specs.RanksLaws.{roomy}
-use Rattle.taskfile.specs.declared.Task.{Task as Index}
 use Rattle.taskfile.specs.Task.{Action, Task, WfAction}
 use Rattle.taskfile.specs.TaskFile.{readTask, checkTask}
-use Rattle.taskfile.specs.Index.{Ready}
+use Rattle.taskfile.specs.Index.{Index, Ready}
 use Rattle.taskfile.specs.TaskReadLaws.{task-wf, task-limits}
 use Rattle.taskfile.specs.AnswerLaws.{there, starts, sizes-there, starts-count}
 use Rattle.taskfile.specs.PartsInPlaceLaws.{at-some, action-here, located, actions-stood, actions-in-place}

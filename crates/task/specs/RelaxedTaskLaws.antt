@@ -13,10 +13,9 @@ use Rattle.facts.specs.Lists.{All, At}
 use Rattle.facts.specs.ListLaws.{zip-map, total-at}
 use Rattle.facts.specs.State.{checkValues}
 use Rattle.facts.specs.StateLaws.{with-width, with-values, with-good}
-use Rattle.taskfile.specs.declared.Task.{Task as Index}
 use Rattle.taskfile.specs.Task.{Action, Task, maxValues, maxNodes, WfAction}
 use Rattle.taskfile.specs.InPlace.{Lies}
-use Rattle.taskfile.specs.Index.{Ready}
+use Rattle.taskfile.specs.Index.{Index, Ready}
 use Rattle.taskfile.specs.WalkInPlace.{nodeCount}
 use Rattle.taskfile.specs.PartsInPlace.{actionIn}
 use Rattle.taskfile.specs.TaskReadLaws.{task-wf, task-limits}

@@ -15,7 +15,7 @@ use taskfile::walk::walk_at;
 ghost use mathlib.Core.Path.{_≡_};
 ghost use Rattle.facts.specs.Answers.{checkedAnswer, ranAnswer};
 ghost use Rattle.taskfile.specs.TaskFile.{checkTask, costTask, runTask};
-ghost use Rattle.taskfile.specs.Index.{Ready};
+ghost use Rattle.taskfile.specs.Index.{indexOf, Ready};
 ghost use Rattle.task.specs.Answers.{costedAnswer};
 ghost use Rattle.estimate.specs.Answers.{estimatedAnswer};
 ghost use Rattle.task.specs.RelaxedTask.{relaxedTask};
@@ -34,11 +34,8 @@ pub enum Costed {
 pub fn check(file: &[u8]) -> Checked
     ensures { λ r. ⌜ checkedAnswer r ≡ checkTask (now (file .entry)) ⌝ }
 {
-    let mut starts = [0; Task::PLACES];
-    let mut firsts = [0; 32];
-    let mut nodes = [0; 64];
-    let counted = taskfile::index_in(file, &mut starts, &mut firsts, &mut nodes);
-    match counted {
+    let mut row = [0; Task::ROW];
+    match taskfile::index_in(file, &mut row) {
         Counted::Refused(why) => Checked::Refused(why),
         Counted::Actions(_, _) => Checked::Accepted,
     }
@@ -48,20 +45,15 @@ pub fn check(file: &[u8]) -> Checked
 pub fn cost(file: &[u8], action: usize, state: &[u8]) -> Costed
     ensures { λ r. ⌜ costedAnswer r ≡ costTask (now (file .entry)) action (now (state .entry)) ⌝ }
 {
-    let mut starts = [0; Task::PLACES];
-    let mut firsts = [0; 32];
-    let mut nodes = [0; 64];
-    let counted = taskfile::index_in(file, &mut starts, &mut firsts, &mut nodes);
-    match counted {
+    let mut row = [0; Task::ROW];
+    match taskfile::index_in(file, &mut row) {
         Counted::Refused(why) => Costed::Refused(why),
         Counted::Actions(variables, actions) => {
             cost_in(
                 file,
                 variables,
                 actions,
-                &starts,
-                &firsts,
-                &nodes,
+                &row,
                 action,
                 state,
             )
@@ -74,15 +66,16 @@ fn cost_in(
     file: &[u8],
     variables: usize,
     actions: usize,
-    starts: &[usize],
-    firsts: &[usize],
-    nodes: &[usize],
+    row: &[usize],
     action: usize,
     state: &[u8],
 ) -> Costed
-    requires { ⌜ Ready (now file) (record { variables = variables; actions = actions; starts = now starts; firsts = now firsts; nodes = now nodes }) ⌝ }
+    requires { ⌜ Ready (now file) (indexOf variables actions (now row)) ⌝ }
     ensures { λ r. ⌜ costedAnswer r ≡ costTask (now (file .entry)) action (now (state .entry)) ⌝ }
 {
+    let starts = &row[..Task::FIRSTS];
+    let firsts = &row[Task::FIRSTS..Task::NODES];
+    let nodes = &row[Task::NODES..Task::ROW];
     if actions <= action {
         return Costed::Refused(Refusal::Missing(0));
     }
@@ -102,20 +95,15 @@ fn cost_in(
 pub fn relaxed_cost(file: &[u8], action: usize, sets: &[u8]) -> Costed
     ensures { λ r. ⌜ costedAnswer r ≡ relaxedTask (now (file .entry)) action (now (sets .entry)) ⌝ }
 {
-    let mut starts = [0; Task::PLACES];
-    let mut firsts = [0; 32];
-    let mut nodes = [0; 64];
-    let counted = taskfile::index_in(file, &mut starts, &mut firsts, &mut nodes);
-    match counted {
+    let mut row = [0; Task::ROW];
+    match taskfile::index_in(file, &mut row) {
         Counted::Refused(why) => Costed::Refused(why),
         Counted::Actions(variables, actions) => {
             relaxed::relaxed_in(
                 file,
                 variables,
                 actions,
-                &starts,
-                &firsts,
-                &nodes,
+                &row,
                 action,
                 sets,
             )
@@ -127,14 +115,11 @@ pub fn relaxed_cost(file: &[u8], action: usize, sets: &[u8]) -> Costed
 pub fn run(file: &[u8], list: &[u16]) -> Ran
     ensures { λ r. ⌜ ranAnswer r ≡ runTask (now (file .entry)) (now (list .entry)) ⌝ }
 {
-    let mut starts = [0; Task::PLACES];
-    let mut firsts = [0; 32];
-    let mut nodes = [0; 64];
-    let counted = taskfile::index_in(file, &mut starts, &mut firsts, &mut nodes);
-    match counted {
+    let mut row = [0; Task::ROW];
+    match taskfile::index_in(file, &mut row) {
         Counted::Refused(why) => Ran::Refused(why),
         Counted::Actions(variables, actions) => {
-            run_in(file, variables, actions, &starts, &firsts, &nodes, list)
+            run_in(file, variables, actions, &row, list)
         }
     }
 }
@@ -144,14 +129,15 @@ fn run_in(
     file: &[u8],
     variables: usize,
     actions: usize,
-    starts: &[usize],
-    firsts: &[usize],
-    nodes: &[usize],
+    row: &[usize],
     list: &[u16],
 ) -> Ran
-    requires { ⌜ Ready (now file) (record { variables = variables; actions = actions; starts = now starts; firsts = now firsts; nodes = now nodes }) ⌝ }
+    requires { ⌜ Ready (now file) (indexOf variables actions (now row)) ⌝ }
     ensures { λ r. ⌜ ranAnswer r ≡ runTask (now (file .entry)) (now (list .entry)) ⌝ }
 {
+    let starts = &row[..Task::FIRSTS];
+    let firsts = &row[Task::FIRSTS..Task::NODES];
+    let nodes = &row[Task::NODES..Task::ROW];
     let init = 1 + variables;
     let goal = init + variables;
     let mut state = [0; 24];
@@ -172,14 +158,11 @@ fn run_in(
 pub fn estimate(file: &[u8], state: &[u8]) -> Estimated
     ensures { λ r. ⌜ estimatedAnswer r ≡ estimateTask (now (file .entry)) (now (state .entry)) ⌝ }
 {
-    let mut starts = [0; Task::PLACES];
-    let mut firsts = [0; 32];
-    let mut nodes = [0; 64];
-    let counted = taskfile::index_in(file, &mut starts, &mut firsts, &mut nodes);
-    match counted {
+    let mut row = [0; Task::ROW];
+    match taskfile::index_in(file, &mut row) {
         Counted::Refused(why) => Estimated::Refused(why),
         Counted::Actions(variables, actions) => {
-            estimate_in(file, variables, actions, &starts, &firsts, &nodes, state)
+            estimate_in(file, variables, actions, &row, state)
         }
     }
 }
@@ -189,14 +172,15 @@ fn estimate_in(
     file: &[u8],
     variables: usize,
     actions: usize,
-    starts: &[usize],
-    firsts: &[usize],
-    nodes: &[usize],
+    row: &[usize],
     state: &[u8],
 ) -> Estimated
-    requires { ⌜ Ready (now file) (record { variables = variables; actions = actions; starts = now starts; firsts = now firsts; nodes = now nodes }) ⌝ }
+    requires { ⌜ Ready (now file) (indexOf variables actions (now row)) ⌝ }
     ensures { λ r. ⌜ estimatedAnswer r ≡ estimateTask (now (file .entry)) (now (state .entry)) ⌝ }
 {
+    let starts = &row[..Task::FIRSTS];
+    let firsts = &row[Task::FIRSTS..Task::NODES];
+    let nodes = &row[Task::NODES..Task::ROW];
     let init = 1 + variables;
     let sizes = &file[1..init];
     match facts::state::check_state(sizes, state) {

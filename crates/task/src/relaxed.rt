@@ -14,7 +14,7 @@ ghost use Prim.Native.Nat.{_+_, _*_, _≤_, min};
 ghost use lib.ListN.{getD};
 ghost use Rattle.facts.specs.Answers.{checkedAnswer};
 ghost use Rattle.taskfile.specs.Task.{maxValues, maxNodes, maxWeight};
-ghost use Rattle.taskfile.specs.Index.{Ready};
+ghost use Rattle.taskfile.specs.Index.{indexOf, Ready};
 ghost use Rattle.taskfile.specs.PartsInPlace.{nodeIn, actionIn};
 ghost use Rattle.relaxation.specs.Relaxed.{SetInside};
 ghost use Rattle.relaxation.specs.Pass.{leastAt};
@@ -31,15 +31,16 @@ pub fn relaxed_in(
     file: &[u8],
     variables: usize,
     actions: usize,
-    starts: &[usize],
-    firsts: &[usize],
-    nodes: &[usize],
+    row: &[usize],
     action: usize,
     sets: &[u8],
 ) -> Costed
-    requires { ⌜ Ready (now file) (record { variables = variables; actions = actions; starts = now starts; firsts = now firsts; nodes = now nodes }) ⌝ }
+    requires { ⌜ Ready (now file) (indexOf variables actions (now row)) ⌝ }
     ensures { λ r. ⌜ costedAnswer r ≡ relaxedTask (now (file .entry)) action (now (sets .entry)) ⌝ }
 {
+    let starts = &row[..Task::FIRSTS];
+    let firsts = &row[Task::FIRSTS..Task::NODES];
+    let nodes = &row[Task::NODES..Task::ROW];
     if actions <= action {
         return Costed::Refused(Refusal::Missing(0));
     }

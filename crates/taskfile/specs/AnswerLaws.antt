@@ -16,7 +16,6 @@ use Rattle.facts.specs.StateLaws.{state-inside}
 use Rattle.facts.specs.Run.{atMost}
 use Rattle.facts.specs.PartialReadLaws.{partial-read}
 use Rattle.facts.specs.HeadLaws.{head-read}
-use Rattle.taskfile.specs.declared.Task.{Task as Index}
 use Rattle.taskfile.specs.Task.{Action, Task, Walk, maxList, cost}
 use Rattle.taskfile.specs.TaskFile.{readTask, checkTask, actionOf, askTask, runTask}
 use Rattle.taskfile.specs.TaskReadLaws.{task-read, task-limits}
@@ -24,7 +23,7 @@ use Rattle.taskfile.specs.WalkInPlace.{walkAt, moveAt, runList}
 use Rattle.taskfile.specs.WalkInPlaceLaws.{walk-in-place}
 use Rattle.taskfile.specs.MoveInPlaceLaws.{located-actions, sum-in-place}
 use Rattle.taskfile.specs.InPlace.{taskAt}
-use Rattle.taskfile.specs.Index.{Ready}
+use Rattle.taskfile.specs.Index.{Index, Ready}
 
 look-none : {A : Type 0} (xs : List A) (k : ℕ) → length xs ≤ k → getElem? xs k ≡ none
 look-none [] k l = refl

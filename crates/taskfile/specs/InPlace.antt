@@ -79,15 +79,21 @@ pub record Lies (f sizes : List ℕ) (x : Action) (at first : ℕ) (nodes : List
   pub action : readAction f sizes left at ≡ accepted (x, next)
   pub node : (j : ℕ) (nd : Node) → At (x .nodes) j nd → (end : ℕ) × (readNode f sizes (length (x .nodes)) (suc j) (getD nodes (first + j) 0) ≡ accepted (nd, end))
 
--- The row of places: the offset of each action, and from these entries on where its effect and its incoming weight stand; and how long the row is.
+-- The row of an index: the offset of each action, and from these entries on where its effect and its incoming weight stand, which of all nodes is its first, and where each node starts; and how long the row is.
 abbrev pub effectsFrom : ℕ
 effectsFrom = 32
 
 abbrev pub incomingFrom : ℕ
 incomingFrom = 64
 
-abbrev pub placesLong : ℕ
-placesLong = 96
+abbrev pub firstsFrom : ℕ
+firstsFrom = 96
+
+abbrev pub nodesFrom : ℕ
+nodesFrom = 128
+
+abbrev pub rowLong : ℕ
+rowLong = 192
 
 -- the row with the places of effect and incoming weight of action a, which begins at an offset
 abbrev pub frontNoted : List ℕ → ℕ → ℕ → List ℕ → List ℕ

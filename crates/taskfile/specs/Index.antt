@@ -3,30 +3,39 @@ use mathlib.Core.Path.{_≡_}
 use Prim.Native.Nat.{ℕ}
 use mathlib.Core.List.{List}
 use lib.Dec.{leb}
-use lib.ListN.{length}
+use lib.ListN.{length, take, drop}
 use Rattle.facts.specs.Read.{Read, accepted, check, _>>=_}
-use Rattle.taskfile.specs.declared.Task.{Task}
 use Rattle.taskfile.specs.Task.{maxActions, maxNodes}
-use Rattle.taskfile.specs.InPlace.{placesLong, Fronts, taskAt, Located}
+use Rattle.taskfile.specs.InPlace.{firstsFrom, nodesFrom, rowLong, Fronts, taskAt, Located}
+
+-- an index by its parts: how many variables and actions the task has; where each action starts, and then where its effect and its incoming weight stand; which of all nodes is its first, and where each node starts
+pub record Index : Type 0 where
+  pub variables : ℕ
+  pub actions : ℕ
+  pub starts : List ℕ
+  pub firsts : List ℕ
+  pub nodes : List ℕ
+
+-- the parts of a row
+abbrev pub indexOf : ℕ → ℕ → List ℕ → Index
+indexOf n k row = record { variables = n; actions = k; starts = take firstsFrom row; firsts = take maxActions (drop firstsFrom row); nodes = take maxNodes (drop nodesFrom row) }
 
 -- the index of an accepted file
-pub record Ready (f : List ℕ) (t : Task) : Type 0 where
-  pub counts : taskAt f ≡ accepted (t .variables, t .actions)
-  pub located : Located f (t .starts) (t .firsts) (t .nodes)
-  pub fronts : Fronts f (t .actions) (t .starts)
-  pub starts-long : length (t .starts) ≡ placesLong
-  pub firsts-long : length (t .firsts) ≡ 32
-  pub nodes-long : length (t .nodes) ≡ 64
+pub record Ready (f : List ℕ) (i : Index) : Type 0 where
+  pub counts : taskAt f ≡ accepted (i .variables, i .actions)
+  pub located : Located f (i .starts) (i .firsts) (i .nodes)
+  pub fronts : Fronts f (i .actions) (i .starts)
+  pub starts-long : length (i .starts) ≡ firstsFrom
+  pub firsts-long : length (i .firsts) ≡ 32
+  pub nodes-long : length (i .nodes) ≡ 64
 
--- how many variables and actions a file has, where its index is noted in rows of these lengths: 7 with the length needed for a row that is too short
-unfoldable pub indexAnswer : List ℕ → ℕ → ℕ → ℕ → Read (ℕ × ℕ)
-indexAnswer f starts firsts nodes = do
-  _ ← check (leb placesLong starts) 7 placesLong
-  _ ← check (leb maxActions firsts) 7 maxActions
-  _ ← check (leb maxNodes nodes) 7 maxNodes
+-- how many variables and actions a file has, where its index is noted in a row of this length: 7 with the length needed for one that is too short
+unfoldable pub indexAnswer : List ℕ → ℕ → Read (ℕ × ℕ)
+indexAnswer f long = do
+  _ ← check (leb rowLong long) 7 rowLong
   taskAt f
 
--- where that is no refusal, the rows are the index
-pub record Rows (f : List ℕ) (answer : Read (ℕ × ℕ)) (starts firsts nodes : List ℕ) : Type 0 where
-  pub located : {n k : ℕ} → answer ≡ accepted (n, k) → Located f starts firsts nodes
-  pub fronts : {n k : ℕ} → answer ≡ accepted (n, k) → Fronts f k starts
+-- where that is no refusal, the row has the index
+pub record Noted (f : List ℕ) (answer : Read (ℕ × ℕ)) (row : List ℕ) : Type 0 where
+  pub located : {n k : ℕ} → answer ≡ accepted (n, k) → Located f row (drop firstsFrom row) (drop nodesFrom row)
+  pub fronts : {n k : ℕ} → answer ≡ accepted (n, k) → Fronts f k row

@@ -6,8 +6,8 @@ use native.Mathlib.Nat.{suc-add, zero-add, sub-zero, lt-of-not-le}
 use native.Mathlib.Decide.{decLe}
 use native.Mathlib.Omega.{arith}
 use mathlib.Core.List.{List, [], _∷_, _++_}
-use lib.ListN.{length, getD, set, length-set}
-use lib.Seq.{take-append-le, take-at, getD-set-same, getD-set-other}
+use lib.ListN.{length, getD, set, drop, length-set, length-drop}
+use lib.Seq.{take-append-le, take-at, drop-set-add, getD-drop, getD-set-same, getD-set-other}
 use Rattle.facts.specs.Read.{Read, accepted, refused, withValue, _>>=_}
 use Rattle.facts.specs.ReadLaws.{not-refused, through, made, not-made, value-of, next-of}
 use Rattle.facts.specs.Lists.{total, At, here, there}
@@ -17,9 +17,9 @@ use Rattle.facts.specs.Fields.{nextOf, readPartial, Operator, readOperator}
 use Rattle.facts.specs.InPlaceLaws.{past-read}
 use Rattle.facts.specs.PartialReadLaws.{partial-read}
 use Rattle.taskfile.specs.Task.{Node, Action, maxActions, maxNodes}
-use Rattle.taskfile.specs.TaskFile.{readDiagram, readAction, readActions}
+use Rattle.taskfile.specs.TaskFile.{readNode, readDiagram, readAction, readActions}
 use Rattle.taskfile.specs.TaskReadLaws.{action-read, action-nodes}
-use Rattle.taskfile.specs.InPlace.{diagramAt, Placed, actionAt, Action-placed, Lies, effectsFrom, incomingFrom, placesLong, frontNoted, Fronts, nodesBefore, Listed}
+use Rattle.taskfile.specs.InPlace.{diagramAt, Placed, actionAt, Action-placed, Lies, effectsFrom, incomingFrom, firstsFrom, nodesFrom, rowLong, frontNoted, Fronts, nodesBefore, Listed}
 use Rattle.taskfile.specs.WalkInPlace.{incomingPlace}
 
 -- the number of nodes of an action
@@ -29,14 +29,6 @@ size x = length (x .nodes)
 -- ---- one action
 
 module _ (f sizes : List ℕ) (left at : ℕ) where
-  -- what is refused has no nodes to be found
-  pub placed-none : {n p : ℕ} (used : ℕ) (nodes : List ℕ) → actionAt f sizes left at ≡ refused n p → Action-placed f sizes left at used nodes nodes
-  unfolding actionAt
-  placed-none used nodes h = record {
-    kept = λ j l. refl;
-    lies = λ x end r j nd a. absurd (not-refused (sym (not-made (λ (p : Action × ℕ). (p .1, length (p .0 .nodes))) (readAction f sizes left at) h) ∙ r));
-  }
-
   pub action-no-front : {n p : ℕ} → nextOf (readOperator f sizes at) ≡ refused n p → actionAt f sizes left at ≡ refused n p
   unfolding actionAt readAction
   action-no-front h = rw (not-made (λ (p : Operator × ℕ). p .1) (readOperator f sizes at) h)
@@ -59,9 +51,9 @@ module _ (f sizes : List ℕ) (left at : ℕ) where
         go (accepted p) = refl
         go (refused n p) = refl
 
-    pub action-placed : {used : ℕ} {before after : List ℕ} → Placed f sizes left place used before after → Action-placed f sizes left at used before after
-    action-placed p = record {
-      kept = p .kept;
+    pub action-placed : {used : ℕ} {before row after : List ℕ} → before ≡ row → Placed f sizes left place used before after → Action-placed f sizes left at used row after
+    action-placed e p = record {
+      kept = λ j l. p .kept j l ∙ ap (λ (xs : List ℕ). getD xs j 0) e;
       lies = λ x end r j nd a.
           let o = action-read f sizes left at r in
           let same : o .place ≡ place = next-of (sym (o .front-is) ∙ front-is) in
@@ -157,11 +149,14 @@ module _ (f places : List ℕ) (a at : ℕ) (few : a < maxActions) where
   front-other : (k : ℕ) → (k ≡ effectsFrom + a → ⊥) → (k ≡ incomingFrom + a → ⊥) → getD (frontNoted f at a places) k 0 ≡ getD places k 0
   front-other k h g = getD-set-other (set places (effectsFrom + a) (pastPartial f at)) (incomingFrom + a) k (incomingPlace f at) 0 g ∙ getD-set-other places (effectsFrom + a) k (pastPartial f at) 0 h
 
-  -- above all no action's offset
-  pub front-keeps : (b : ℕ) → b < maxActions → getD (frontNoted f at a places) b 0 ≡ getD places b 0
+  -- above all no action's offset, and none behind the places of incoming weights
+  front-keeps : (b : ℕ) → b < maxActions → getD (frontNoted f at a places) b 0 ≡ getD places b 0
   front-keeps b l = front-other b (λ q. omega (arith, l, q)) (λ q. omega (arith, l, q))
 
-  module _ (long : placesLong ≤ length places) where
+  front-behind : (k : ℕ) → firstsFrom ≤ k → getD (frontNoted f at a places) k 0 ≡ getD places k 0
+  front-behind k l = front-other k (λ q. omega (arith, few, l, q)) (λ q. omega (arith, few, l, q))
+
+  module _ (long : firstsFrom ≤ length places) where
     front-effect : getD (frontNoted f at a places) (effectsFrom + a) 0 ≡ pastPartial f at
     front-effect = getD-set-other (set places (effectsFrom + a) (pastPartial f at)) (incomingFrom + a) (effectsFrom + a) (incomingPlace f at) 0 (λ q. omega (arith, q)) ∙ getD-set-same places (effectsFrom + a) (pastPartial f at) 0 (omega (arith, few, long))
 
@@ -171,8 +166,15 @@ module _ (f places : List ℕ) (a at : ℕ) (few : a < maxActions) where
 pub fronts-none : {f places : List ℕ} → Fronts f 0 places
 fronts-none = record { effect = λ a l. absurd (omega arith); incoming = λ a l. absurd (omega arith) }
 
+-- other entries may change
+pub fronts-kept : {f row row′ : List ℕ} {count : ℕ} → count ≤ maxActions → ((k : ℕ) → k < firstsFrom → getD row′ k 0 ≡ getD row k 0) → Fronts f count row → Fronts f count row′
+fronts-kept {f} few same h = record {
+  effect = λ a l. same (effectsFrom + a) (omega (arith, l, few)) ∙ h .effect a l ∙ ap (pastPartial f) (sym (same a (omega (arith, l, few))));
+  incoming = λ a l. same (incomingFrom + a) (omega (arith, l, few)) ∙ h .incoming a l ∙ ap (incomingPlace f) (sym (same a (omega (arith, l, few))));
+}
+
 -- those of one action more are noted, once it is noted where it starts
-pub fronts-more : {f places : List ℕ} {a : ℕ} (at : ℕ) → Fronts f a places → a < maxActions → placesLong ≤ length places → Fronts f (a + 1) (frontNoted f at a (set places a at))
+pub fronts-more : {f places : List ℕ} {a : ℕ} (at : ℕ) → Fronts f a places → a < maxActions → firstsFrom ≤ length places → Fronts f (a + 1) (frontNoted f at a (set places a at))
 fronts-more {f} {places} {a} at h few long = record {
   effect = λ b l. elim (decLe a b) [
     | yes g ↦ let same : b ≡ a = omega (arith, g, l) in rw same (front-effect f (set places a at) a at few there ∙ ap (pastPartial f) (sym own))
@@ -184,7 +186,7 @@ fronts-more {f} {places} {a} at h few long = record {
   ];
 }
   where
-    there : placesLong ≤ length (set places a at)
+    there : firstsFrom ≤ length (set places a at)
     there = omega (arith, long, length-set places a at)
 
     kept : (k : ℕ) → (k ≡ a → ⊥) → (k ≡ effectsFrom + a → ⊥) → (k ≡ incomingFrom + a → ⊥) → getD (frontNoted f at a (set places a at)) k 0 ≡ getD places k 0
@@ -251,18 +253,18 @@ module _ {f sizes : List ℕ} {a from at used : ℕ} {actions firsts nodes : Lis
     ];
   }
 
-  -- entries behind those of the actions may change
-  pub going-kept : {actions′ : List ℕ} → ((b : ℕ) → b < a → getD actions′ b 0 ≡ getD actions b 0) → Going f sizes a from at used actions′ firsts nodes
-  going-kept {actions′} h = record {
+  -- other entries may change
+  going-kept : {actions′ firsts′ : List ℕ} → ((b : ℕ) → b < a → getD actions′ b 0 ≡ getD actions b 0) → ((b : ℕ) → b < a → getD firsts′ b 0 ≡ getD firsts b 0) → Going f sizes a from at used actions′ firsts′ nodes
+  going-kept h k = record {
     done = g .done;
     reads = g .reads;
     uses = g .uses;
     within = g .within;
-    lies = λ b x i. rw (h b (omega (arith, at-length i, count-is))) (g .lies b x i);
+    lies = λ b x i. rw (h b (omega (arith, at-length i, count-is)), k b (omega (arith, at-length i, count-is))) (g .lies b x i);
   }
 
   -- one more, by what a reader knows that goes past it
-  pub going-next : {next m : ℕ} {nodes′ : List ℕ} → a < length actions → a < length firsts → actionAt f sizes left at ≡ accepted (next, m) → Action-placed f sizes left at used nodes nodes′
+  going-next : {next m : ℕ} {nodes′ : List ℕ} → a < length actions → a < length firsts → actionAt f sizes left at ≡ accepted (next, m) → Action-placed f sizes left at used nodes nodes′
       → Going f sizes (a + 1) from next (used + m) (set actions a at) (set firsts a used) nodes′
   going-next {next} {nodes′ = nodes′} l k r p =
       let o = action-is f sizes left at r in
@@ -287,3 +289,54 @@ listed-none f sizes count from actions firsts nodes h = record {
   lies = λ xs end r a x i. absurd (not-refused (sym (not-made (λ (p : List Action × ℕ). p .1) (readActions f sizes count maxNodes from) h) ∙ r));
   first-is = λ xs end r a x i. absurd (not-refused (sym (not-made (λ (p : List Action × ℕ). p .1) (readActions f sizes count maxNodes from) h) ∙ r));
 }
+
+-- ---- the same in one row
+
+-- the row with the offset of action a and the number of its first node
+abbrev pub startNoted : ℕ → ℕ → ℕ → List ℕ → List ℕ
+startNoted a at used row = set (set row (firstsFrom + a) used) a at
+
+-- the actions up to here are read and noted, with the places of their effects and incoming weights
+pub record Rowed (f sizes : List ℕ) (a from at used : ℕ) (row : List ℕ) : Type 0 where
+  pub going : Going f sizes a from at used row (drop firstsFrom row) (drop nodesFrom row)
+  pub fronts : Fronts f a row
+
+pub rowed-start : (f sizes : List ℕ) (from : ℕ) (row : List ℕ) → Rowed f sizes 0 from from 0 row
+rowed-start f sizes from row = record { going = going-start f sizes from row (drop firstsFrom row) (drop nodesFrom row); fronts = fronts-none }
+
+module _ {f sizes : List ℕ} {a from at used : ℕ} {row : List ℕ} (g : Rowed f sizes a from at used row) (few : a < maxActions) (long : rowLong ≤ length row) where
+  abbrev first : List ℕ
+  first = set row (firstsFrom + a) used
+
+  -- one more: what its diagram's reader keeps is all that is noted before its nodes
+  pub rowed-next : {next m : ℕ} {row′ : List ℕ} → actionAt f sizes (maxNodes - used) at ≡ accepted (next, m) → Action-placed f sizes (maxNodes - used) at (nodesFrom + used) (frontNoted f at a (startNoted a at used row)) row′
+      → Rowed f sizes (a + 1) from next (used + m) row′
+  rowed-next {next} {m} {row′} r p = record { going = all; fronts = fronts-kept (omega (arith, few)) (λ k l. p .kept k (omega (arith, l))) (fronts-more at start few (omega (arith, long, length-set row (firstsFrom + a) used))) }
+    where
+      start : Fronts f a first
+      start = fronts-kept (omega (arith, few)) (λ k l. getD-set-other row (firstsFrom + a) k used 0 (λ q. omega (arith, l, q))) (g .fronts)
+
+      -- an entry past the actions' fronts, before the nodes
+      behind : (k : ℕ) → firstsFrom ≤ k → k < nodesFrom + used → getD row′ k 0 ≡ getD first k 0
+      behind k l h = p .kept k h ∙ front-behind f (startNoted a at used row) a at few k l ∙ getD-set-other first a k at 0 (λ q. omega (arith, few, l, q))
+
+      placed : Action-placed f sizes (maxNodes - used) at used (drop nodesFrom row) (drop nodesFrom row′)
+      placed = record {
+        kept = λ j l. getD-drop nodesFrom row′ j 0 ∙ behind (nodesFrom + j) (omega arith) (omega (arith, l)) ∙ getD-set-other row (firstsFrom + a) (nodesFrom + j) used 0 (λ q. omega (arith, few, q)) ∙ sym (getD-drop nodesFrom row j 0);
+        lies = λ x end r j nd h.
+            let o = p .lies x end r j nd h in
+            let same : getD row′ (nodesFrom + used + j) 0 ≡ getD (drop nodesFrom row′) (used + j) 0 = ap (λ (k : ℕ). getD row′ k 0) (omega arith) ∙ sym (getD-drop nodesFrom row′ (used + j) 0) in
+            (o .0, subst (λ (k : ℕ). readNode f sizes (length (x .nodes)) (suc j) k ≡ accepted (nd, o .0)) same (o .1));
+      }
+
+      noted : Going f sizes (a + 1) from next (used + m) (startNoted a at used row) (set (drop firstsFrom row) a used) (drop nodesFrom row′)
+      noted =
+          going-next {actions = first} {firsts = drop firstsFrom row} (going-kept (g .going) (λ b l. getD-set-other row (firstsFrom + a) b used 0 (λ q. omega (arith, l, few, q))) (λ b l. refl))
+          (omega (arith, few, long, length-set row (firstsFrom + a) used)) (omega (arith, few, long, length-drop firstsFrom row)) r placed
+
+      all : Going f sizes (a + 1) from next (used + m) row′ (drop firstsFrom row′) (drop nodesFrom row′)
+      all =
+          going-kept noted
+          (λ b l. p .kept b (omega (arith, l, few)) ∙ front-keeps f (startNoted a at used row) a at few b (omega (arith, l, few)))
+          (λ b l.
+          getD-drop firstsFrom row′ b 0 ∙ behind (firstsFrom + b) (omega arith) (omega (arith, l, few)) ∙ sym (getD-drop firstsFrom first b 0) ∙ ap (λ (xs : List ℕ). getD xs b 0) (drop-set-add firstsFrom row a used))

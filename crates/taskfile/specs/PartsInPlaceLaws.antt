@@ -14,11 +14,10 @@ use Rattle.facts.specs.Fields.{wordAt}
 use Rattle.facts.specs.InPlaceLaws.{word-is}
 use Rattle.facts.specs.PartialReadLaws.{Partial-read, partial-read}
 use Rattle.facts.specs.HeadLaws.{head-read}
-use Rattle.taskfile.specs.declared.Task.{Task as Index}
 use Rattle.taskfile.specs.Task.{Edge, Node, Action, Task, maxNodes}
 use Rattle.taskfile.specs.TaskFile.{edgeBytes, readTask}
 use Rattle.taskfile.specs.InPlace.{Lies, effectsFrom, incomingFrom, Located}
-use Rattle.taskfile.specs.Index.{Ready}
+use Rattle.taskfile.specs.Index.{Index, Ready}
 use Rattle.taskfile.specs.WalkInPlace.{incomingPlace, nodeCount}
 use Rattle.taskfile.specs.PartsInPlace.{edgeIn, edgesIn, nodeIn, nodesIn, actionIn, actionsIn, Stands, Stood}
 use Rattle.taskfile.specs.DiagramReadLaws.{Edge-read, Node-read, node-read, node-edge, node-tests}

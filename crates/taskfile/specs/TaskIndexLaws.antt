@@ -2,7 +2,9 @@
 use mathlib.Core.Path.{_≡_, sym, ap, ap₂, _∙_, subst, subst₂}
 use Prim.Native.Nat.{ℕ, _+_, _≤_, _<_}
 use mathlib.Core.List.{List}
-use lib.ListN.{length, getD, take, drop}
+use native.Mathlib.Omega.{arith}
+use lib.ListN.{length, getD, take, drop, length-take, length-drop}
+use lib.Seq.{length-take-le, take-all, getD-take}
 use borrow.Author.Tests.{le-leb, lt-leb}
 use Rattle.facts.specs.Read.{Read, accepted, refused}
 use Rattle.facts.specs.ReadLaws.{not-refused, made, not-made, value-of, next-of}
@@ -11,10 +13,11 @@ use Rattle.facts.specs.FieldLaws.{count-read}
 use Rattle.facts.specs.HeadLaws.{headed, headed-sizes, no-head}
 use Rattle.taskfile.specs.Task.{Action, Task, maxActions, maxNodes}
 use Rattle.taskfile.specs.TaskFile.{readActions, readTask, checkTask}
-use Rattle.taskfile.specs.TaskReadLaws.{task-read}
-use Rattle.taskfile.specs.InPlace.{Lies, placesLong, Fronts, Listed, taskAt, Located}
-use Rattle.taskfile.specs.Index.{Ready, indexAnswer, Rows}
-use Rattle.taskfile.specs.IndexLaws.{actions-count}
+use Rattle.taskfile.specs.TaskReadLaws.{task-read, task-limits}
+use Rattle.taskfile.specs.InPlace.{Lies, firstsFrom, nodesFrom, rowLong, Fronts, Listed, taskAt, Located}
+use Rattle.taskfile.specs.Index.{indexOf, Ready, indexAnswer, Noted}
+use Rattle.taskfile.specs.IndexLaws.{fronts-kept, actions-count}
+use Rattle.taskfile.specs.MoveInPlaceLaws.{located-actions, located-firsts}
 
 -- what is counted of a task
 abbrev counts : Task → ℕ × ℕ
@@ -30,44 +33,54 @@ module _ (f : List ℕ) where
   unfolding taskAt checkTask
   check-accepted h = rw (made counts (readTask f) h .answer)
 
-  -- ---- the index in lent rows
+  -- ---- the index in a lent row
 
   -- what is refused has no index
-  pub rows-none : {n p : ℕ} {starts firsts nodes : List ℕ} → Rows f (refused n p) starts firsts nodes
-  rows-none = record { located = λ h. absurd (not-refused h); fronts = λ h. absurd (not-refused h) }
+  pub noted-none : {n p : ℕ} {row : List ℕ} → Noted f (refused n p) row
+  noted-none = record { located = λ h. absurd (not-refused h); fronts = λ h. absurd (not-refused h) }
 
   -- what is accepted has this one
-  pub rows-good : {n k : ℕ} {starts firsts nodes : List ℕ} → Located f starts firsts nodes → Fronts f k starts → Rows f (accepted (n, k)) starts firsts nodes
-  rows-good {starts = starts} l g = record { located = λ h. l; fronts = λ h. subst (λ (k : ℕ). Fronts f k starts) (next-of h) g }
+  pub noted-good : {n k : ℕ} {row : List ℕ} → Located f row (drop firstsFrom row) (drop nodesFrom row) → Fronts f k row → Noted f (accepted (n, k)) row
+  noted-good {row = row} l g = record { located = λ h. l; fronts = λ h. subst (λ (k : ℕ). Fronts f k row) (next-of h) g }
 
-  pub short-starts : {starts : ℕ} (firsts nodes : ℕ) → starts < placesLong → indexAnswer f starts firsts nodes ≡ refused 7 placesLong
+  pub row-short : {long : ℕ} → long < rowLong → indexAnswer f long ≡ refused 7 rowLong
   unfolding indexAnswer
-  short-starts {starts} firsts nodes l = rw (lt-leb placesLong starts l)
+  row-short {long} l = rw (lt-leb rowLong long l)
 
-  pub short-firsts : {starts firsts : ℕ} (nodes : ℕ) → placesLong ≤ starts → firsts < maxActions → indexAnswer f starts firsts nodes ≡ refused 7 maxActions
+  pub row-fits : {long : ℕ} → rowLong ≤ long → indexAnswer f long ≡ taskAt f
   unfolding indexAnswer
-  short-firsts {starts} {firsts} nodes s l = rw (le-leb placesLong starts s, lt-leb maxActions firsts l)
+  row-fits {long} l = rw (le-leb rowLong long l)
 
-  pub short-nodes : {starts firsts nodes : ℕ} → placesLong ≤ starts → maxActions ≤ firsts → nodes < maxNodes → indexAnswer f starts firsts nodes ≡ refused 7 maxNodes
-  unfolding indexAnswer
-  short-nodes {starts} {firsts} {nodes} s t l = rw (le-leb placesLong starts s, le-leb maxActions firsts t, lt-leb maxNodes nodes l)
+  -- a row that is as long as it has to be tells what the check tells
+  pub index-ready : {answer : Read (ℕ × ℕ)} {n k : ℕ} {row : List ℕ} → answer ≡ indexAnswer f rowLong → Noted f answer row → answer ≡ accepted (n, k) → length row ≡ rowLong → Ready f (indexOf n k row)
+  unfolding indexAnswer taskAt
+  index-ready {k = k} {row} h noted is long =
+      let m = made counts (readTask f) (sym h ∙ is) in
+      let t = m .from in
+      let count : length (t .actions) ≡ k = ap (λ (p : ℕ × ℕ). p .1) (m .value) in
+      let few : length (t .actions) ≤ maxActions = task-limits f (m .answer) .actions in
+      let starts = located-actions f (m .answer) (noted .located is) firstsFrom (omega (arith, few)) in
+      let firsts = located-firsts f (m .answer) starts maxActions few in
+      let same : drop nodesFrom row ≡ take maxNodes (drop nodesFrom row) = sym (take-all maxNodes (drop nodesFrom row) (omega (arith, length-drop nodesFrom row, long))) in
+      let at : (a : ℕ) → a < firstsFrom → getD (take firstsFrom row) a 0 ≡ getD row a 0 = λ a l. getD-take firstsFrom row a 0 l in
+      record {
+        counts = sym h ∙ is;
+        located = subst (Located f (take firstsFrom row) (take maxActions (drop firstsFrom row))) same firsts;
+        fronts = fronts-kept (omega (arith, few, count)) at (noted .fronts is);
+        starts-long = length-take-le firstsFrom row (omega (arith, long));
+        firsts-long = length-take-le maxActions (drop firstsFrom row) (omega (arith, length-drop firstsFrom row, long));
+        nodes-long = length-take-le maxNodes (drop nodesFrom row) (omega (arith, length-drop nodesFrom row, long));
+      }
 
-  pub long-rows : {starts firsts nodes : ℕ} → placesLong ≤ starts → maxActions ≤ firsts → maxNodes ≤ nodes → indexAnswer f starts firsts nodes ≡ taskAt f
-  unfolding indexAnswer
-  long-rows {starts} {firsts} {nodes} s t l = rw (le-leb placesLong starts s, le-leb maxActions firsts t, le-leb maxNodes nodes l)
+  -- and its parts lie inside it
+  pub row-long : (row : List ℕ) {n k : ℕ} → Ready f (indexOf n k row) → rowLong ≤ length row
+  row-long row ready = omega (arith, ready .nodes-long, length-take maxNodes (drop nodesFrom row), length-drop nodesFrom row)
 
-  -- rows that are as long as they have to be tell what the check tells
-  pub index-ready : {answer : Read (ℕ × ℕ)} {n k : ℕ} {starts firsts nodes : List ℕ} → answer ≡ indexAnswer f placesLong maxActions maxNodes → Rows f answer starts firsts nodes
-      → answer ≡ accepted (n, k) → length starts ≡ placesLong → length firsts ≡ maxActions → length nodes ≡ maxNodes
-      → Ready f (record { variables = n; actions = k; starts = starts; firsts = firsts; nodes = nodes })
-  unfolding indexAnswer
-  index-ready h rows is s t l = record { counts = sym h ∙ is; located = rows .located is; fronts = rows .fronts is; starts-long = s; firsts-long = t; nodes-long = l }
-
-  pub index-refused : {n p : ℕ} → indexAnswer f placesLong maxActions maxNodes ≡ refused n p → checkTask f ≡ refused n p
+  pub index-refused : {n p : ℕ} → indexAnswer f rowLong ≡ refused n p → checkTask f ≡ refused n p
   unfolding indexAnswer
   index-refused h = check-refused h
 
-  pub index-accepted : {n k : ℕ} → indexAnswer f placesLong maxActions maxNodes ≡ accepted (n, k) → checkTask f ≡ accepted tt
+  pub index-accepted : {n k : ℕ} → indexAnswer f rowLong ≡ accepted (n, k) → checkTask f ≡ accepted tt
   unfolding indexAnswer
   index-accepted h = check-accepted h
 

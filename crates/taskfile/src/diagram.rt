@@ -16,7 +16,7 @@ ghost use Rattle.facts.specs.Answers.{pastAnswer, checkedAnswer};
 ghost use Rattle.facts.specs.Fields.{nextOf};
 ghost use Rattle.taskfile.specs.TaskFile.{edgeBytes, readTarget, readEdge, readEdges, readNode, readNodes};
 ghost use Rattle.taskfile.specs.Answers.{drawnAnswer};
-ghost use Rattle.taskfile.specs.InPlace.{targetsRise, nodesRise, Levels, Marked, diagramAt, Placed};
+ghost use Rattle.taskfile.specs.InPlace.{targetsRise, nodesRise, Levels, Marked, nodesFrom, rowLong, diagramAt, Placed};
 ghost use Rattle.taskfile.specs.PartsInPlace.{Tests};
 
 // The bytes of a weight.
@@ -31,25 +31,26 @@ const TERMINAL: u8 = 255;
 // A row of variables by number has an entry for each node, one at 0 and one for the terminal.
 const LEVELS: usize = Task::MAX_NODES + 2;
 
-// Past a diagram, which may have as many nodes as are not used yet; its nodes' offsets are noted after those that are used.
+// Past a diagram, which may have as many nodes as are not used yet; its nodes' offsets are noted in the row of the index, after those that are used.
 pub fn diagram_end(
     file: &[u8],
     at: usize,
     sizes: &[u8],
     used: usize,
-    offsets: &mut [usize],
+    row: &mut [usize],
 ) -> Drawn
-    requires { ⌜ (used ≤ 64) × (64 ≤ length (now offsets)) × (length (now sizes) ≤ 24) ⌝ }
-    ensures { λ r. ⌜ (drawnAnswer r ≡ diagramAt (now (file .entry)) (now (sizes .entry)) (64 - used) at) × Placed (now (file .entry)) (now (sizes .entry)) (64 - used) at used (now (offsets .entry)) (now (offsets .exit)) ⌝ }
+    requires { ⌜ (used ≤ 64) × (rowLong ≤ length (now row)) × (length (now sizes) ≤ 24) ⌝ }
+    ensures { λ r. ⌜ (drawnAnswer r ≡ diagramAt (now (file .entry)) (now (sizes .entry)) (64 - used) at) × Placed (now (file .entry)) (now (sizes .entry)) (64 - used) at (nodesFrom + used) (now (row .entry)) (now (row .exit)) ⌝ }
 {
     match facts::head::read_count(file, at, 0, (Task::MAX_NODES - used) as u64) {
         Field::Refused(why) => Drawn::Refused(why),
         Field::Value(count) => {
             let m = count as usize;
+            let first = Task::NODES + used;
             let mut levels = [TERMINAL; LEVELS];
-            match nodes_end(file, at + 1, sizes, m, &mut offsets[used..], &mut levels) {
+            match nodes_end(file, at + 1, sizes, m, &mut row[first..], &mut levels) {
                 Past::Refused(why) => Drawn::Refused(why),
-                Past::Next(end) => match nodes_rise(file, sizes, m, &offsets[used..], &levels) {
+                Past::Next(end) => match nodes_rise(file, sizes, m, &row[first..], &levels) {
                     Checked::Refused(why) => Drawn::Refused(why),
                     Checked::Accepted => Drawn::Next(end, m),
                 },

@@ -10,60 +10,38 @@ use facts::Refusal;
 use facts::number::read_word;
 use facts::partial::partial_end;
 ghost use mathlib.Core.Path.{_≡_};
-ghost use Prim.Native.Nat.{ℕ, _-_, _≤_, _<_};
-ghost use lib.ListN.{length};
+ghost use Prim.Native.Nat.{ℕ, _+_, _-_, _≤_, _<_};
+ghost use lib.ListN.{length, drop};
 ghost use Rattle.facts.specs.Read.{accepted};
 ghost use Rattle.facts.specs.Answers.{pastAnswer};
 ghost use Rattle.facts.specs.Fields.{nextOf, readOperator, headAt};
 ghost use Rattle.taskfile.specs.TaskFile.{readActions};
 ghost use Rattle.taskfile.specs.Answers.{drawnAnswer, countedAnswer};
-ghost use Rattle.taskfile.specs.InPlace.{actionAt, Action-placed, frontNoted, Fronts, Listed, taskAt};
-ghost use Rattle.taskfile.specs.Index.{Rows};
+ghost use Rattle.taskfile.specs.InPlace.{actionAt, Action-placed, frontNoted, firstsFrom, nodesFrom, rowLong, Fronts, Listed, taskAt};
+ghost use Rattle.taskfile.specs.Index.{Noted};
 
 // How many variables and actions a task file has; where each action, its effect and its incoming weight stand, which of all nodes is its first, and where each node starts.
-pub fn index_into(
-    file: &[u8],
-    action_at: &mut [usize],
-    first_node: &mut [usize],
-    node_at: &mut [usize],
-) -> Counted
-    requires { ⌜ (96 ≤ length (now «action_at»)) × (32 ≤ length (now «first_node»)) × (64 ≤ length (now «node_at»)) ⌝ }
-    ensures { λ r. ⌜ (countedAnswer r ≡ taskAt (now (file .entry))) × Rows (now (file .entry)) (countedAnswer r) (now («action_at» .exit)) (now («first_node» .exit)) (now («node_at» .exit)) ⌝ }
+pub fn index_into(file: &[u8], row: &mut [usize]) -> Counted
+    requires { ⌜ rowLong ≤ length (now row) ⌝ }
+    ensures { λ r. ⌜ (countedAnswer r ≡ taskAt (now (file .entry))) × Noted (now (file .entry)) (countedAnswer r) (now (row .exit)) ⌝ }
 {
     match facts::head::read_head(file, Task::MAX_VARIABLES, Task::MAX_VALUES) {
         Headed::Refused(why) => Counted::Refused(why),
-        Headed::Head(variables, at) => {
-            index_actions(file, variables, at, action_at, first_node, node_at)
-        }
+        Headed::Head(variables, at) => index_actions(file, variables, at, row),
     }
 }
 
 // The same, past the head, which ends at `at`.
-fn index_actions(
-    file: &[u8],
-    variables: usize,
-    at: usize,
-    action_at: &mut [usize],
-    first_node: &mut [usize],
-    node_at: &mut [usize],
-) -> Counted
-    requires { ⌜ (headAt (now file) 24 8 ≡ accepted (variables, at)) × (96 ≤ length (now «action_at»)) × (32 ≤ length (now «first_node»)) × (64 ≤ length (now «node_at»)) ⌝ }
-    ensures { λ r. ⌜ (countedAnswer r ≡ taskAt (now (file .entry))) × Rows (now (file .entry)) (countedAnswer r) (now («action_at» .exit)) (now («first_node» .exit)) (now («node_at» .exit)) ⌝ }
+fn index_actions(file: &[u8], variables: usize, at: usize, row: &mut [usize]) -> Counted
+    requires { ⌜ (headAt (now file) 24 8 ≡ accepted (variables, at)) × (rowLong ≤ length (now row)) ⌝ }
+    ensures { λ r. ⌜ (countedAnswer r ≡ taskAt (now (file .entry))) × Noted (now (file .entry)) (countedAnswer r) (now (row .exit)) ⌝ }
 {
     match facts::head::read_count(file, at, 1, Task::MAX_ACTIONS) {
         Field::Refused(why) => Counted::Refused(why),
         Field::Value(count) => {
             let actions = count as usize;
             let last = 1 + variables;
-            match actions_end(
-                file,
-                at + 1,
-                &file[1..last],
-                actions,
-                action_at,
-                first_node,
-                node_at,
-            ) {
+            match actions_end(file, at + 1, &file[1..last], actions, row) {
                 Past::Refused(why) => Counted::Refused(why),
                 Past::Next(end) => {
                     if end < file.len() {
@@ -77,26 +55,18 @@ fn index_actions(
 }
 
 // Past the actions, noting where each and its parts stand and which node is its first.
-fn actions_end(
-    file: &[u8],
-    from: usize,
-    sizes: &[u8],
-    count: usize,
-    action_at: &mut [usize],
-    first_node: &mut [usize],
-    node_at: &mut [usize],
-) -> Past
-    requires { ⌜ (count ≤ 32) × (96 ≤ length (now «action_at»)) × (count ≤ length (now «first_node»)) × (64 ≤ length (now «node_at»)) × (length (now sizes) ≤ 24) ⌝ }
-    ensures { λ r. ⌜ (pastAnswer r ≡ nextOf (readActions (now (file .entry)) (now (sizes .entry)) count 64 from)) × Listed (now (file .entry)) (now (sizes .entry)) count from (now («action_at» .exit)) (now («first_node» .exit)) (now («node_at» .exit)) ⌝ }
-    ensures { λ r. ⌜ ((end : ℕ) → pastAnswer r ≡ accepted end → Fronts (now (file .entry)) count (now («action_at» .exit))) ⌝ }
+fn actions_end(file: &[u8], from: usize, sizes: &[u8], count: usize, row: &mut [usize]) -> Past
+    requires { ⌜ (count ≤ 32) × (rowLong ≤ length (now row)) × (length (now sizes) ≤ 24) ⌝ }
+    ensures { λ r. ⌜ (pastAnswer r ≡ nextOf (readActions (now (file .entry)) (now (sizes .entry)) count 64 from)) × Listed (now (file .entry)) (now (sizes .entry)) count from (now (row .exit)) (drop firstsFrom (now (row .exit))) (drop nodesFrom (now (row .exit))) ⌝ }
+    ensures { λ r. ⌜ ((end : ℕ) → pastAnswer r ≡ accepted end → Fronts (now (file .entry)) count (now (row .exit))) ⌝ }
 {
     let mut at = from;
     let mut used: usize = 0;
     let mut a: usize = 0;
     while a < count {
-        action_at[a] = at;
-        first_node[a] = used;
-        match action_end(file, at, sizes, a, used, action_at, node_at) {
+        row[Task::FIRSTS + a] = used;
+        row[a] = at;
+        match action_end(file, at, sizes, a, used, row) {
             Drawn::Next(next, nodes) => {
                 at = next;
                 used += nodes;
@@ -110,31 +80,30 @@ fn actions_end(
     Past::Next(at)
 }
 
-// Past action a: its front, and its diagram, whose nodes are noted from index `used` on.
+// Past action a: its front, and its diagram, whose nodes are noted after the `used` ones that there are.
 fn action_end(
     file: &[u8],
     at: usize,
     sizes: &[u8],
     a: usize,
     used: usize,
-    action_at: &mut [usize],
-    node_at: &mut [usize],
+    row: &mut [usize],
 ) -> Drawn
-    requires { ⌜ (used ≤ 64) × (64 ≤ length (now «node_at»)) × (length (now sizes) ≤ 24) × (a < 32) × (96 ≤ length (now «action_at»)) ⌝ }
-    ensures { λ r. ⌜ (drawnAnswer r ≡ actionAt (now (file .entry)) (now (sizes .entry)) (64 - used) at) × Action-placed (now (file .entry)) (now (sizes .entry)) (64 - used) at used (now («node_at» .entry)) (now («node_at» .exit)) ⌝ }
-    ensures { λ r. ⌜ ((p : ℕ × ℕ) → drawnAnswer r ≡ accepted p → now («action_at» .exit) ≡ frontNoted (now (file .entry)) at a (now («action_at» .entry))) ⌝ }
+    requires { ⌜ (used ≤ 64) × (a < 32) × (rowLong ≤ length (now row)) × (length (now sizes) ≤ 24) ⌝ }
+    ensures { λ r. ⌜ drawnAnswer r ≡ actionAt (now (file .entry)) (now (sizes .entry)) (64 - used) at ⌝ }
+    ensures { λ r. ⌜ ((p : ℕ × ℕ) → drawnAnswer r ≡ accepted p → Action-placed (now (file .entry)) (now (sizes .entry)) (64 - used) at (nodesFrom + used) (frontNoted (now (file .entry)) at a (now (row .entry))) (now (row .exit))) ⌝ }
 {
-    match front_end(file, at, sizes, a, action_at) {
+    match front_end(file, at, sizes, a, row) {
         Past::Refused(why) => Drawn::Refused(why),
-        Past::Next(place) => diagram_end(file, place, sizes, used, node_at),
+        Past::Next(place) => diagram_end(file, place, sizes, used, row),
     }
 }
 
 // Past the front of action a, its precondition, effect and incoming weight, noting where the last two stand.
-fn front_end(file: &[u8], at: usize, sizes: &[u8], a: usize, action_at: &mut [usize]) -> Past
-    requires { ⌜ (a < 32) × (96 ≤ length (now «action_at»)) ⌝ }
+fn front_end(file: &[u8], at: usize, sizes: &[u8], a: usize, row: &mut [usize]) -> Past
+    requires { ⌜ (a < 32) × (rowLong ≤ length (now row)) ⌝ }
     ensures { λ r. ⌜ pastAnswer r ≡ nextOf (readOperator (now (file .entry)) (now (sizes .entry)) at) ⌝ }
-    ensures { λ r. ⌜ ((end : ℕ) → pastAnswer r ≡ accepted end → now («action_at» .exit) ≡ frontNoted (now (file .entry)) at a (now («action_at» .entry))) ⌝ }
+    ensures { λ r. ⌜ ((end : ℕ) → pastAnswer r ≡ accepted end → now (row .exit) ≡ frontNoted (now (file .entry)) at a (now (row .entry))) ⌝ }
 {
     match partial_end(file, at, sizes) {
         Past::Refused(why) => Past::Refused(why),
@@ -143,8 +112,8 @@ fn front_end(file: &[u8], at: usize, sizes: &[u8], a: usize, action_at: &mut [us
             Past::Next(incoming) => match read_word(file, incoming) {
                 Field::Refused(why) => Past::Refused(why),
                 Field::Value(_) => {
-                    action_at[Task::EFFECTS + a] = effect;
-                    action_at[Task::INCOMING + a] = incoming;
+                    row[Task::EFFECTS + a] = effect;
+                    row[Task::INCOMING + a] = incoming;
                     Past::Next(incoming + 2)
                 }
             },

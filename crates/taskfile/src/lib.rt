@@ -8,15 +8,13 @@ use facts::Refusal;
 ghost use mathlib.Core.Path.{_≡_};
 ghost use lib.ListN.{length};
 ghost use Rattle.taskfile.specs.Answers.{countedAnswer};
-ghost use Rattle.taskfile.specs.Index.{indexAnswer, Rows};
+ghost use Rattle.taskfile.specs.Index.{indexAnswer, Noted};
 
-// A task by its index: how many variables and actions it has; where each action starts, and then where its effect and its incoming weight stand; which of all nodes is its first, and where each node starts. Code lends the rows and does not hand a `Task` on.
+// How many variables and actions a task has. What else its index has stands in a row that the caller lends: where each action starts, and then where its effect and its incoming weight stand; which of all
+// nodes is its first, and where each node starts.
 pub struct Task {
     pub variables: usize,
     pub actions: usize,
-    pub starts: [usize; 96],
-    pub firsts: [usize; 32],
-    pub nodes: [usize; 64],
 }
 
 impl Task {
@@ -32,12 +30,16 @@ impl Task {
 
     pub const MAX_LIST: usize = 256;
 
-    // From which entries of the row `starts` on the places of effects and of incoming weights are, and how long the row is.
+    // From which entries of the row on the places of effects and of incoming weights, the first nodes and the nodes are, and how long the row is.
     pub const EFFECTS: usize = 32;
 
     pub const INCOMING: usize = 64;
 
-    pub const PLACES: usize = 96;
+    pub const FIRSTS: usize = 96;
+
+    pub const NODES: usize = 128;
+
+    pub const ROW: usize = 192;
 }
 
 // Where the next field starts, and how many nodes the diagram before it has.
@@ -52,24 +54,13 @@ pub enum Counted {
     Refused(Refusal),
 }
 
-// The index of a file, noted in lent rows: how many variables and actions there are, or the refusal; 7 with the length needed for a row that is too short.
-pub fn index_in(
-    file: &[u8],
-    starts: &mut [usize],
-    firsts: &mut [usize],
-    nodes: &mut [usize],
-) -> Counted
-    ensures { λ r. ⌜ countedAnswer r ≡ indexAnswer (now (file .entry)) (length (now (starts .entry))) (length (now (firsts .entry))) (length (now (nodes .entry))) ⌝ }
-    ensures { λ r. ⌜ Rows (now (file .entry)) (countedAnswer r) (now (starts .exit)) (now (firsts .exit)) (now (nodes .exit)) ⌝ }
+// The index of a file, noted in a lent row: how many variables and actions there are, or the refusal; 7 with the length needed for a row that is too short.
+pub fn index_in(file: &[u8], row: &mut [usize]) -> Counted
+    ensures { λ r. ⌜ countedAnswer r ≡ indexAnswer (now (file .entry)) (length (now (row .entry))) ⌝ }
+    ensures { λ r. ⌜ Noted (now (file .entry)) (countedAnswer r) (now (row .exit)) ⌝ }
 {
-    if starts.len() < Task::PLACES {
-        return Counted::Refused(Refusal::Short(Task::PLACES));
+    if row.len() < Task::ROW {
+        return Counted::Refused(Refusal::Short(Task::ROW));
     }
-    if firsts.len() < Task::MAX_ACTIONS as usize {
-        return Counted::Refused(Refusal::Short(Task::MAX_ACTIONS as usize));
-    }
-    if nodes.len() < Task::MAX_NODES {
-        return Counted::Refused(Refusal::Short(Task::MAX_NODES));
-    }
-    index::index_into(file, starts, firsts, nodes)
+    index::index_into(file, row)
 }

@@ -17,25 +17,25 @@ use Rattle.carry.proofs.contract_in.Tie as tie
 
 -- the actions that are noted
 abbrev noted : tie.After-count → List ℕ
-noted c = c .before .before .before .follow-plan .last .1 .1 .1 .1 .1 .1 .1 .0
+noted c = c .before .before .before .follow-plan .last .1 .1 .1 .1 .1 .0
 
 -- the list is contracted to so many of them
-carried : (c : tie.After-count) → let a = c .before .before .before .before .before .before .before .before .before .before .before .args in (c .count .given .0 .0 ≤ length (noted c)) × (contracted (now (a .file)) (now (a .list)) ≡ accepted (take (c .count .given .0 .0) (noted c), c .count .given .0 .1 .0))
-carried c = let a = c .before .before .before .before .before .before .before .before .before .before .before .args in subst (ContractsTo (now (a .file)) (now (a .list)) (noted c)) (c .count .given .1) (c .before .before .before .follow-plan .ensures)
+carried : (c : tie.After-count) → let a = c .before .before .before .before .before .before .before .before .before .args in (c .count .given .0 .0 ≤ length (noted c)) × (contracted (now (a .file)) (now (a .list)) ≡ accepted (take (c .count .given .0 .0) (noted c), c .count .given .0 .1 .0))
+carried c = let a = c .before .before .before .before .before .before .before .before .before .args in subst (ContractsTo (now (a .file)) (now (a .list)) (noted c)) (c .count .given .1) (c .before .before .before .follow-plan .ensures)
 
 long : (c : tie.After-count) → length (take (c .count .given .0 .0) (noted c)) ≡ c .count .given .0 .0
 long c = length-take-le (c .count .given .0 .0) (noted c) (carried c .0)
 
 returns : tie.Need-returns
-returns c = let r = short-in (carried (c .before .before) .1) (now (c .before .before .before .before .before .before .before .before .before .before .before .before .before .args .out)) (sym (long (c .before .before))) (c .if1 .taken) in (sym (r .0), sym (r .1))
+returns c = let r = short-in (carried (c .before .before) .1) (now (c .before .before .before .before .before .before .before .before .before .before .before .args .out)) (sym (long (c .before .before))) (c .if1 .taken) in (sym (r .0), sym (r .1))
 
 -- there is room for them
-room : (c : tie.Else1) → length (take (c .before .before .count .given .0 .0) (noted (c .before .before))) ≤ length (now (c .before .before .before .before .before .before .before .before .before .before .before .before .before .args .out))
+room : (c : tie.Else1) → length (take (c .before .before .count .given .0 .0) (noted (c .before .before))) ≤ length (now (c .before .before .before .before .before .before .before .before .before .before .before .args .out))
 room c = omega (arith, long (c .before .before), c .if1 .left)
 
 returns-3 : tie.Need-returns-3
 returns-3 c =
-    let w : Wrote (take (c .before .before .before .before .before .before .before .count .given .0 .0) (noted (c .before .before .before .before .before .before .before))) (now (c .before .before .before .before .before .before .before .before .before .before .before .before .before .before .before .before .before .before .args .out)) (c .before .before .put-entries .last .1 .0) (c .before .before .before .before .before .before .before .count .given .0 .0) = record { count = sym (long (c .before .before .before .before .before .before .before)); buffer = c .before .before .put-entries .ensures .buffer } in
+    let w : Wrote (take (c .before .before .before .before .before .before .before .count .given .0 .0) (noted (c .before .before .before .before .before .before .before))) (now (c .before .before .before .before .before .before .before .before .before .before .before .before .before .before .before .before .args .out)) (c .before .before .put-entries .last .1 .0) (c .before .before .before .before .before .before .before .count .given .0 .0) = record { count = sym (long (c .before .before .before .before .before .before .before)); buffer = c .before .before .put-entries .ensures .buffer } in
     let r = wrote-in (carried (c .before .before .before .before .before .before .before) .1) (room (c .before .before .before .before .before)) w in
     (sym (r .0), sym (r .1))
 

@@ -17,32 +17,32 @@ use Rattle.carry.proofs.contract_written.Statement.{statement}
 use Rattle.carry.proofs.contract_written.Tie as tie
 
 -- so many bytes were written
-wrote : (c : tie.After-length) → compileFile (now (c .before .before .before .before .before .before .before .before .before .before .before .args .file)) 13846 ≡ accepted (c .length .given .0 .0)
+wrote : (c : tie.After-length) → compileFile (now (c .before .before .before .before .before .before .before .before .before .args .file)) 13846 ≡ accepted (c .length .given .0 .0)
 wrote c = sym (c .before .before .before .compile .ensures .0) ∙ ap compiledAnswer (c .length .given .1)
 
 fits : (c : tie.After-length) → c .length .given .0 .0 ≤ length (c .before .before .before .compile .last .1 .0)
 fits c = omega (arith, answer-fits _ _ (wrote c), c .before .before .written2 .given)
 
 -- they are the probe file of the file's task
-from : (c : tie.After-length) → WrittenFrom (now (c .before .before .before .before .before .before .before .before .before .before .before .args .file)) (take (c .length .given .0 .0) (c .before .before .before .compile .last .1 .0))
+from : (c : tie.After-length) → WrittenFrom (now (c .before .before .before .before .before .before .before .before .before .args .file)) (take (c .length .given .0 .0) (c .before .before .before .compile .last .1 .0))
 from c =
-    let f = now (c .before .before .before .before .before .before .before .before .before .before .before .args .file) in
-    written-from f (bytes-each f (λ i. c .before .before .before .before .before .before .before .before .before .before .shared-slice-known .given i .fits)) (replicate 13846 0) (wrote c) (c .before .before .before .compile .ensures .1)
+    let f = now (c .before .before .before .before .before .before .before .before .before .args .file) in
+    written-from f (bytes-each f (λ i. c .before .before .before .before .before .before .before .before .shared-slice-known .given i .fits)) (replicate 13846 0) (wrote c) (c .before .before .before .compile .ensures .1)
 
 contract-plan-requires : tie.Need-contract-plan-requires
 contract-plan-requires c κs =
-    let s = c .before .before .before .before .before .before .before .before .before .before .before .before .before .before .before .before .before .before in
+    let s = c .before .before .before .before .before .before .before .before .before .before .before .before .before .before .before .before in
     (s .pre, contract-ran (from (c .before .before .before .before .before .before .before)) (now (s .args .list)) (sym (c .before .before .before .before .run .ensures) ∙ ap ranAnswer (c .before .before .sum .given .1)))
 
 returns : tie.Need-returns
 returns c =
-    let s = c .before .before .before .before .before .before .before .before .before .before .before .before in
+    let s = c .before .before .before .before .before .before .before .before .before .before in
     let r = refused-in (now (s .args .out)) (contract-refused (now (s .args .file)) (now (s .args .list)) (sym (c .before .before .before .before .compile .ensures .0) ∙ ap compiledAnswer (c .before .why .given .1))) in
     (sym (r .0), sym (r .1))
 
 returns-2 : tie.Need-returns-2
 returns-2 c =
-    let s = c .before .before .before .before .before .before .before .before .before .before .before .before .before .before .before .before .before in
+    let s = c .before .before .before .before .before .before .before .before .before .before .before .before .before .before .before in
     let r = refused-in (now (s .args .out)) (contract-blocked (from (c .before .before .before .before .before .before)) (now (s .args .list)) (sym (c .before .before .before .run .ensures) ∙ ap ranAnswer (c .before .why2 .given .1))) in
     (sym (r .0), sym (r .1))
 

@@ -12,13 +12,13 @@ use Rattle.carry.proofs.expand.Tie as tie
 
 expand-in-requires : tie.Need-expand-in-requires
 expand-in-requires c κs =
-    let i = c .before .before .before .before .before .before .before .before .before .before .index-in .ensures in
-    index-ready _ (i .0) (i .1) (ap countedAnswer (c .before .before .before .before .before .counted2 .given .1)) (omega (arith, c .before .before .before .before .before .before .before .before .before .starts2 .given)) (omega (arith, c .before .before .before .before .before .before .before .before .firsts2 .given)) (omega (arith, c .before .before .before .before .before .before .before .nodes2 .given))
+    let i = c .before .before .before .before .before .before .index-in .ensures in
+    index-ready _ (i .0) (i .1) (ap countedAnswer (c .before .before .before .variables .given .1)) (omega (arith, c .before .before .before .before .before .row2 .given))
 
 returns : tie.Need-returns
 returns c =
-    let s = c .before .before .before .before .before .before .before .before .before .before .before .before .before in
-    let refused = expand-no-file (now (s .args .file)) (now (s .args .list)) (index-refused _ (sym (c .before .before .before .before .before .before .index-in .ensures .0) ∙ ap countedAnswer (c .before .counted .given .1))) in
+    let s = c .before .before .before .before .before .before .before .before .before in
+    let refused = expand-no-file (now (s .args .file)) (now (s .args .list)) (index-refused _ (sym (c .before .before .before .before .index-in .ensures .0) ∙ ap countedAnswer (c .before .why .given .1))) in
     let r = refused-in (now (s .args .out)) refused in
     (sym (r .0), sym (r .1))
 
@@ -27,11 +27,7 @@ expand-spec =
     tie.close
     (tie.spec
     (λ c. search needs)
-    (λ c. search needs)
-    (λ c. search needs)
     (λ c κs. search needs)
-    (λ c. search needs)
-    (λ c. search needs)
     (λ c. search needs)
     (λ c. search needs)
     (λ c. search needs)

@@ -11,7 +11,7 @@ use Rattle.carry.proofs.expand_in.Tie as tie
 
 returns : tie.Need-returns
 returns c =
-    let s = c .before .before .before .before .before .before .before in
+    let s = c .before .before .before .before .before in
     let f = now (s .args .file) in
     let r = refused-in (now (s .args .out)) (expand-long f (reads f (s .pre)) (now (s .args .list)) (c .if1 .taken)) in
     (sym (r .0), sym (r .1))
@@ -22,10 +22,10 @@ expand-in-spec =
     (tie.spec
     returns
     (λ c. search needs)
-    (λ c κs. (c .before .before .before .before .before .before .before .before .before .before .pre, omega (arith, c .before .before .before .if1 .left), omega (arith, c .before .before .if2 .taken)))
+    (λ c κs. (c .before .before .before .before .before .before .before .before .pre, omega (arith, c .before .before .before .if1 .left), omega (arith, c .before .before .if2 .taken)))
     (λ c. search needs)
     (λ c. c .before .before .before .expand-by .ensures)
     (λ c. search needs)
-    (λ c κs. (c .before .before .before .before .before .before .before .before .before .before .pre, omega (arith, c .before .before .before .if1 .left), omega (arith, c .before .before .before .if1 .left)))
+    (λ c κs. (c .before .before .before .before .before .before .before .before .pre, omega (arith, c .before .before .before .if1 .left), omega (arith, c .before .before .before .if1 .left)))
     (λ c. search needs)
     (λ c. c .before .before .before .expand-by2 .ensures))

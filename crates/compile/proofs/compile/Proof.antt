@@ -11,16 +11,13 @@ use Rattle.compile.proofs.compile.Tie as tie
 
 compile-in-requires : tie.Need-compile-in-requires
 compile-in-requires c κs =
-    let i = c .before .before .before .before .before .before .before .before .before .before .index-in .ensures in
-    index-ready _ (i .0) (i .1) (ap countedAnswer (c .before .before .before .before .before .counted2 .given .1))
-    (omega (arith, c .before .before .before .before .before .before .before .before .before .starts2 .given))
-    (omega (arith, c .before .before .before .before .before .before .before .before .firsts2 .given))
-    (omega (arith, c .before .before .before .before .before .before .before .nodes2 .given))
+    let i = c .before .before .before .before .before .before .index-in .ensures in
+    index-ready _ (i .0) (i .1) (ap countedAnswer (c .before .before .before .variables .given .1)) (omega (arith, c .before .before .before .before .before .row2 .given))
 
 returns : tie.Need-returns
 returns c =
-    let s = c .before .before .before .before .before .before .before .before .before .before .before .before in
-    let r = compile-refused (now (s .args .file)) (now (s .args .out)) (index-refused _ (sym (c .before .before .before .before .before .before .index-in .ensures .0) ∙ ap countedAnswer (c .before .counted .given .1))) in
+    let s = c .before .before .before .before .before .before .before .before in
+    let r = compile-refused (now (s .args .file)) (now (s .args .out)) (index-refused _ (sym (c .before .before .before .before .index-in .ensures .0) ∙ ap countedAnswer (c .before .why .given .1))) in
     (sym (r .0), sym (r .1))
 
 pub compile-spec : {M : Type 1} → statement M
@@ -28,11 +25,7 @@ compile-spec =
     tie.close
     (tie.spec
     (λ c. search needs)
-    (λ c. search needs)
-    (λ c. search needs)
     (λ c κs. search needs)
-    (λ c. search needs)
-    (λ c. search needs)
     (λ c. search needs)
     (λ c. search needs)
     (λ c. search needs)

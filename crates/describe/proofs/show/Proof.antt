@@ -11,24 +11,20 @@ use Rattle.describe.proofs.show.Tie as tie
 
 show-in-requires : tie.Need-show-in-requires
 show-in-requires c κs =
-    let i = c .before .before .before .before .before .before .before .before .before .before .index-in .ensures in
-    index-ready _ (i .0) (i .1) (ap countedAnswer (c .before .before .before .before .before .counted2 .given .1)) (omega (arith, c .before .before .before .before .before .before .before .before .before .starts2 .given)) (omega (arith, c .before .before .before .before .before .before .before .before .firsts2 .given)) (omega (arith, c .before .before .before .before .before .before .before .nodes2 .given))
+    let i = c .before .before .before .before .before .before .index-in .ensures in
+    index-ready _ (i .0) (i .1) (ap countedAnswer (c .before .before .before .variables .given .1)) (omega (arith, c .before .before .before .before .before .row2 .given))
 
 returns : tie.Need-returns
 returns c =
-    let s = c .before .before .before .before .before .before .before .before .before .before .before .before in
-    refused-in (now (s .args .out)) (shown-refused (now (s .args .file)) (index-refused _ (sym (c .before .before .before .before .before .before .index-in .ensures .0) ∙ ap countedAnswer (c .before .counted .given .1))))
+    let s = c .before .before .before .before .before .before .before .before in
+    refused-in (now (s .args .out)) (shown-refused (now (s .args .file)) (index-refused _ (sym (c .before .before .before .before .index-in .ensures .0) ∙ ap countedAnswer (c .before .why .given .1))))
 
 pub show-spec : {M : Type 1} → statement M
 show-spec =
     tie.close
     (tie.spec
     (λ c. search needs)
-    (λ c. search needs)
-    (λ c. search needs)
     (λ c κs. search needs)
-    (λ c. search needs)
-    (λ c. search needs)
     (λ c. search needs)
     (λ c. search needs)
     (λ c. search needs)

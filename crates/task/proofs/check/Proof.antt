@@ -7,17 +7,15 @@ use Rattle.task.proofs.check.Statement.{statement}
 use Rattle.task.proofs.check.Tie as tie
 
 returns : tie.Need-returns
-returns c = sym (index-refused _ (sym (c .before .before .before .before .before .before .index-in .ensures .0) ∙ ap countedAnswer (c .before .counted .given .1)))
+returns c = sym (index-refused _ (sym (c .before .before .before .before .index-in .ensures .0) ∙ ap countedAnswer (c .before .why .given .1)))
 
 returns-2 : tie.Need-returns-2
-returns-2 c = sym (index-accepted _ (sym (c .before .before .before .before .before .index-in .ensures .0) ∙ ap countedAnswer (c .enum-told .given .1)))
+returns-2 c = sym (index-accepted _ (sym (c .before .before .before .index-in .ensures .0) ∙ ap countedAnswer (c .enum-told .given .1)))
 
 pub check-spec : {M : Type 1} → statement M
 check-spec =
     tie.close
     (tie.spec
-    (λ c. search needs)
-    (λ c. search needs)
     (λ c. search needs)
     (λ c κs. search needs)
     (λ c. search needs)

@@ -12,22 +12,18 @@ use Rattle.task.proofs.relaxed_cost.Tie as tie
 
 relaxed-in-requires : tie.Need-relaxed-in-requires
 relaxed-in-requires c κs =
-    let i = c .before .before .before .before .before .before .before .before .before .index-in .ensures in
-    index-ready _ (i .0) (i .1) (ap countedAnswer (c .before .before .before .before .counted2 .given .1)) (omega (arith, c .before .before .before .before .before .before .before .before .starts2 .given)) (omega (arith, c .before .before .before .before .before .before .before .firsts2 .given)) (omega (arith, c .before .before .before .before .before .before .nodes2 .given))
+    let i = c .before .before .before .before .before .index-in .ensures in
+    index-ready _ (i .0) (i .1) (ap countedAnswer (c .before .before .variables .given .1)) (omega (arith, c .before .before .before .before .row2 .given))
 
 returns : tie.Need-returns
-returns c = sym (ask-refused checkRelaxed relaxedCost _ _ _ (index-refused _ (sym (c .before .before .before .before .before .before .index-in .ensures .0) ∙ ap countedAnswer (c .before .counted .given .1))))
+returns c = sym (ask-refused checkRelaxed relaxedCost _ _ _ (index-refused _ (sym (c .before .before .before .before .index-in .ensures .0) ∙ ap countedAnswer (c .before .why .given .1))))
 
 pub relaxed-cost-spec : {M : Type 1} → statement M
 relaxed-cost-spec =
     tie.close
     (tie.spec
     (λ c. search needs)
-    (λ c. search needs)
-    (λ c. search needs)
     (λ c κs. search needs)
-    (λ c. search needs)
-    (λ c. search needs)
     (λ c. search needs)
     (λ c. search needs)
     (λ c. search needs)

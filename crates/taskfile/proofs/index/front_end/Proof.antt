@@ -34,7 +34,7 @@ returns-3 c = (sym (operator-no-weight _ _ _ (pre-is (c .before .before .before 
 same-length : tie.Need-same-length
 same-length c =
     let a = c .before .before .before .before .before .before .before .before .before .before .before .before .before .before .args in
-    length-set (set (now (a .action-at)) (effectsFrom + a .a) (c .before .before .before .before .before .before .before .before .effect .given .0 .0)) (incomingFrom + a .a) (c .before .before .before .before .incoming .given .0 .0) ∙ length-set (now (a .action-at)) (effectsFrom + a .a) (c .before .before .before .before .before .before .before .before .effect .given .0 .0)
+    length-set (set (now (a .row)) (effectsFrom + a .a) (c .before .before .before .before .before .before .before .before .effect .given .0 .0)) (incomingFrom + a .a) (c .before .before .before .before .incoming .given .0 .0) ∙ length-set (now (a .row)) (effectsFrom + a .a) (c .before .before .before .before .before .before .before .before .effect .given .0 .0)
 
 returns-4 : tie.Need-returns-4
 returns-4 c =
@@ -43,7 +43,7 @@ returns-4 c =
     let effect = past-at f (now (a .sizes)) (a .at) (pre-is (c .before .before .before .before .before .before .before .before)) in
     let incoming = past-both f (a .at) effect (past-at f (now (a .sizes)) (c .before .before .before .before .before .before .before .before .effect .given .0 .0) (effect-is (c .before .before .before .before))) in (
       sym (operator-good _ _ _ (pre-is (c .before .before .before .before .before .before .before .before)) (effect-is (c .before .before .before .before)) (sym (c .before .before .read-word .ensures) ∙ ap fieldAnswer (c .enum-told .given .1))),
-      λ end q. ap₂ (λ (e i : ℕ). set (set (now (a .action-at)) (effectsFrom + a .a) e) (incomingFrom + a .a) i) effect incoming,
+      λ end q. ap₂ (λ (e i : ℕ). set (set (now (a .row)) (effectsFrom + a .a) e) (incomingFrom + a .a) i) effect incoming,
     )
 
 pub front-end-spec : {M : Type 1} → statement M
@@ -64,7 +64,7 @@ front-end-spec =
     (λ c. omega (arith, c .before .before .before .before .before .before .before .before .before .before .before .before .before .before .pre .0, c .before .before .before .before .before .before .before .before .before .before .before .before .before .before .pre .1))
     (λ c. omega (arith, c .before .before .before .before .before .before .before .before .before .before .before .before .before .before .pre .0))
     (λ c. search needs)
-    (λ c. omega (arith, c .before .before .before .before .before .before .before .before .before .before .before .before .before .before .pre .0, c .before .before .before .before .before .before .before .before .before .before .before .before .before .before .pre .1, length-set (now (c .before .before .before .before .before .before .before .before .before .before .before .before .before .before .args .action-at)) (effectsFrom + c .before .before .before .before .before .before .before .before .before .before .before .before .before .before .args .a) (c .before .before .before .before .before .before .before .before .effect .given .0 .0)))
+    (λ c. omega (arith, c .before .before .before .before .before .before .before .before .before .before .before .before .before .before .pre .0, c .before .before .before .before .before .before .before .before .before .before .before .before .before .before .pre .1, length-set (now (c .before .before .before .before .before .before .before .before .before .before .before .before .before .before .args .row)) (effectsFrom + c .before .before .before .before .before .before .before .before .before .before .before .before .before .before .args .a) (c .before .before .before .before .before .before .before .before .effect .given .0 .0)))
     (λ c. omega (arith, number-read _ 2 _ (sym (c .before .before .read-word .ensures) ∙ ap fieldAnswer (c .enum-told .given .1)) .fits))
     returns
     returns-2

@@ -1,21 +1,21 @@
 -- `taskfile::index::index_into` meets its contract: the head, and then the rest. Assumes nothing.
 use mathlib.Core.Path.{sym, ap, _∙_}
 use Rattle.facts.specs.Answers.{headedAnswer}
-use Rattle.taskfile.specs.TaskIndexLaws.{task-no-head, rows-none}
+use Rattle.taskfile.specs.TaskIndexLaws.{task-no-head, noted-none}
 use borrow.Author.Needs.{needs}
 use Rattle.taskfile.proofs.index.index_into.Statement.{statement}
 use Rattle.taskfile.proofs.index.index_into.Tie as tie
 
 index-actions-requires : tie.Need-index-actions-requires
-index-actions-requires c κs = let s = c .before .before .before .before .before .before .before .before .before .before .before in (sym (c .before .before .before .before .before .before .read-head .ensures) ∙ ap headedAnswer (c .before .before .before .before .variables .given .1), s .pre .0, s .pre .1, s .pre .2)
+index-actions-requires c κs = let s = c .before .before .before .before .before .before .before in (sym (c .before .before .before .before .read-head .ensures) ∙ ap headedAnswer (c .before .before .variables .given .1), s .pre)
 
 returns : tie.Need-returns
 returns c =
     let e = task-no-head _ (sym (c .before .before .before .read-head .ensures) ∙ ap headedAnswer (c .before .why .given .1)) in
-    (sym e, rows-none _)
+    (sym e, noted-none _)
 
 returns-2 : tie.Need-returns-2
-returns-2 c = c .before .before .before .before .before .before .index-actions .ensures
+returns-2 c = c .before .before .index-actions .ensures
 
 pub index-into-spec : {M : Type 1} → statement M
 index-into-spec =
@@ -26,7 +26,5 @@ index-into-spec =
     (λ c. search needs)
     index-actions-requires
     returns
-    (λ c. search needs)
-    (λ c. search needs)
     (λ c. search needs)
     returns-2)
