@@ -41,14 +41,7 @@ pub fn expand(file: &[u8], list: &[u16], out: &mut [u16]) -> Carried
     match taskfile::index_in(file, &mut row) {
         Counted::Refused(why) => Carried::Refused(why),
         Counted::Actions(variables, actions) => {
-            expand_in(
-                file,
-                variables,
-                actions,
-                &row,
-                list,
-                out,
-            )
+            expand_in(file, variables, actions, &row, list, out)
         }
     }
 }
@@ -71,26 +64,10 @@ fn expand_in(
     }
     if list.len() <= SHORT_LIST {
         let mut few = [0; 832];
-        return expand_by(
-            file,
-            variables,
-            actions,
-            row,
-            list,
-            &mut few,
-            out,
-        );
+        return expand_by(file, variables, actions, row, list, &mut few, out);
     }
     let mut many = [0; 6656];
-    expand_by(
-        file,
-        variables,
-        actions,
-        row,
-        list,
-        &mut many,
-        out,
-    )
+    expand_by(file, variables, actions, row, list, &mut many, out)
 }
 
 // The same by a buffer that has room for the probe list.
@@ -132,14 +109,7 @@ pub fn contract(file: &[u8], list: &[u16], out: &mut [u16]) -> Carried
     match taskfile::index_in(file, &mut row) {
         Counted::Refused(why) => Carried::Refused(why),
         Counted::Actions(variables, actions) => {
-            contract_in(
-                file,
-                variables,
-                actions,
-                &row,
-                list,
-                out,
-            )
+            contract_in(file, variables, actions, &row, list, out)
         }
     }
 }
@@ -159,22 +129,8 @@ fn contract_in(
     ensures { λ r. ⌜ now (out .exit) ≡ bufferIn (now (out .entry)) (contracted (now (file .entry)) (now (list .entry))) ⌝ }
 {
     let mut plan = [0; Task::MAX_LIST];
-    match follow::follow_plan(
-        file,
-        variables,
-        actions,
-        row,
-        list,
-        &mut plan,
-    ) {
-        Followed::Astray => contract_written(
-            file,
-            variables,
-            actions,
-            row,
-            list,
-            out,
-        ),
+    match follow::follow_plan(file, variables, actions, row, list, &mut plan) {
+        Followed::Astray => contract_written(file, variables, actions, row, list, out),
         Followed::Plan(count, sum) => {
             if out.len() < count {
                 return Carried::Refused(Refusal::Short(count));
@@ -203,15 +159,7 @@ fn contract_written(
         Compiled::Refused(why) => Carried::Refused(why),
         Compiled::Length(length) => match probe::run(&written[..length], list) {
             Ran::Refused(why) => Carried::Refused(why),
-            Ran::Sum(sum) => starts::contract_plan(
-                file,
-                variables,
-                actions,
-                row,
-                list,
-                sum,
-                out,
-            ),
+            Ran::Sum(sum) => starts::contract_plan(file, variables, actions, row, list, sum, out),
         },
     }
 }

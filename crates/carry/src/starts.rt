@@ -98,13 +98,7 @@ pub fn contract_plan(
     ensures { λ r. ⌜ now (out .exit) ≡ bufferIn (now (out .entry)) (contracted (now (file .entry)) (now (list .entry))) ⌝ }
 {
     let mut action_of = [0; 576];
-    note_starts(
-        file,
-        variables,
-        actions,
-        row,
-        &mut action_of,
-    );
+    note_starts(file, variables, actions, row, &mut action_of);
     match count_starts(&action_of, list) {
         Starts::TooMany(i) => Carried::Refused(Refusal::Long(i)),
         Starts::Count(needed) => {
@@ -117,13 +111,7 @@ pub fn contract_plan(
 }
 
 // Notes at each start's number 1 and the number of its action; at every other step's 0 stays.
-fn note_starts(
-    file: &[u8],
-    variables: usize,
-    actions: usize,
-    row: &[usize],
-    action_of: &mut [u8],
-)
+fn note_starts(file: &[u8], variables: usize, actions: usize, row: &[usize], action_of: &mut [u8])
     requires { ⌜ Ready (now file) (indexOf variables actions (now row)) × (now «action_of» ≡ replicate 576 0) ⌝ }
     ensures { λ r. ⌜ NotedIn (now (file .entry)) (now («action_of» .exit)) ⌝ }
 {

@@ -29,9 +29,7 @@ pub fn compile(file: &[u8], out: &mut [u8]) -> Compiled
     let mut row = [0; Task::ROW];
     match taskfile::index_in(file, &mut row) {
         Counted::Refused(why) => Compiled::Refused(why),
-        Counted::Actions(variables, actions) => {
-            compile_in(file, variables, actions, &row, out)
-        }
+        Counted::Actions(variables, actions) => { compile_in(file, variables, actions, &row, out) }
     }
 }
 

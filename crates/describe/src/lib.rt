@@ -27,9 +27,7 @@ pub fn show(file: &[u8], out: &mut [u8]) -> Described
     let mut row = [0; Task::ROW];
     match taskfile::index_in(file, &mut row) {
         Counted::Refused(why) => Described::Refused(why),
-        Counted::Actions(variables, actions) => {
-            show_in(file, variables, actions, &row, out)
-        }
+        Counted::Actions(variables, actions) => { show_in(file, variables, actions, &row, out) }
     }
 }
 
@@ -67,9 +65,7 @@ pub fn draw(file: &[u8], out: &mut [u8]) -> Described
     let mut row = [0; Task::ROW];
     match taskfile::index_in(file, &mut row) {
         Counted::Refused(why) => Described::Refused(why),
-        Counted::Actions(variables, actions) => {
-            draw_in(file, variables, actions, &row, out)
-        }
+        Counted::Actions(variables, actions) => { draw_in(file, variables, actions, &row, out) }
     }
 }
 
@@ -112,14 +108,7 @@ pub fn draw_action(file: &[u8], action: usize, out: &mut [u8]) -> Described
     match taskfile::index_in(file, &mut row) {
         Counted::Refused(why) => Described::Refused(why),
         Counted::Actions(variables, actions) => {
-            draw_one_in(
-                file,
-                variables,
-                actions,
-                &row,
-                action,
-                out,
-            )
+            draw_one_in(file, variables, actions, &row, action, out)
         }
     }
 }

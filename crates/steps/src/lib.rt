@@ -24,14 +24,7 @@ pub fn name_steps(file: &[u8], list: &[u16], out: &mut [u8]) -> Described
     match taskfile::index_in(file, &mut row) {
         Counted::Refused(why) => Described::Refused(why),
         Counted::Actions(variables, actions) => {
-            name_in(
-                file,
-                variables,
-                actions,
-                &row,
-                list,
-                out,
-            )
+            name_in(file, variables, actions, &row, list, out)
         }
     }
 }

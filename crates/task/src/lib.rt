@@ -49,14 +49,7 @@ pub fn cost(file: &[u8], action: usize, state: &[u8]) -> Costed
     match taskfile::index_in(file, &mut row) {
         Counted::Refused(why) => Costed::Refused(why),
         Counted::Actions(variables, actions) => {
-            cost_in(
-                file,
-                variables,
-                actions,
-                &row,
-                action,
-                state,
-            )
+            cost_in(file, variables, actions, &row, action, state)
         }
     }
 }
@@ -99,14 +92,7 @@ pub fn relaxed_cost(file: &[u8], action: usize, sets: &[u8]) -> Costed
     match taskfile::index_in(file, &mut row) {
         Counted::Refused(why) => Costed::Refused(why),
         Counted::Actions(variables, actions) => {
-            relaxed::relaxed_in(
-                file,
-                variables,
-                actions,
-                &row,
-                action,
-                sets,
-            )
+            relaxed::relaxed_in(file, variables, actions, &row, action, sets)
         }
     }
 }
@@ -118,20 +104,12 @@ pub fn run(file: &[u8], list: &[u16]) -> Ran
     let mut row = [0; Task::ROW];
     match taskfile::index_in(file, &mut row) {
         Counted::Refused(why) => Ran::Refused(why),
-        Counted::Actions(variables, actions) => {
-            run_in(file, variables, actions, &row, list)
-        }
+        Counted::Actions(variables, actions) => { run_in(file, variables, actions, &row, list) }
     }
 }
 
 // The same, of a file that is accepted: the run starts from a copy of the initial values.
-fn run_in(
-    file: &[u8],
-    variables: usize,
-    actions: usize,
-    row: &[usize],
-    list: &[u16],
-) -> Ran
+fn run_in(file: &[u8], variables: usize, actions: usize, row: &[usize], list: &[u16]) -> Ran
     requires { ⌜ Ready (now file) (indexOf variables actions (now row)) ⌝ }
     ensures { λ r. ⌜ ranAnswer r ≡ runTask (now (file .entry)) (now (list .entry)) ⌝ }
 {
