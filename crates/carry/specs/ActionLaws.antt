@@ -10,11 +10,11 @@ use Rattle.facts.specs.ListLaws.{at-length, at-getD}
 use Rattle.facts.specs.PartialLaws.{inside-at}
 use Rattle.facts.specs.Fields.{wordAt}
 use Rattle.facts.specs.Write.{over, Wrote}
-use Rattle.taskfile.specs.Task.{Edge, Node, edgeAt, maxWeight}
+use Rattle.taskfile.specs.Task.{Edge, Node, edgeAt, maxNodes, maxWeight}
 use Rattle.taskfile.specs.WalkInPlace.{wayFrom}
 use Rattle.taskfile.specs.WalkInPlaceLaws.{edge-is, turn-up, turn-none}
 use Rattle.compilation.specs.Compile.{edgeCount}
-use Rattle.taskfile.specs.PartsInPlace.{nodeIn, nodesIn}
+use Rattle.taskfile.specs.PartsInPlace.{nodeIn, nodesIn, Tested}
 use Rattle.taskfile.specs.PartsInPlaceLaws.{edges-at, nodes-long, nodes-at}
 use Rattle.compile.specs.PutLaws.{Going, going-end}
 use Rattle.compile.specs.InPlaceLaws.{edges-long}
@@ -53,12 +53,13 @@ module _ (f sizes offsets : List ℕ) (count : ℕ) {first-edge : List ℕ} {fir
   nodes = nodesIn f sizes offsets 0 count
 
   -- A well-formed node is visited: it has an edge for the value of a state inside the domains, and the target is above.
-  pub visited : {k node variable value target : ℕ} → 1 ≤ k → k ≤ count → node ≡ getD offsets (k - 1) 0 → variable ≡ getD f node 0 → value ≡ getD s variable 0 → target ≡ getD f (edgePlace node value) 0
+  pub visited : Tested f offsets count → {k node variable value target : ℕ} → 1 ≤ k → k ≤ count → node ≡ getD offsets (k - 1) 0 → variable ≡ getD offsets (maxNodes + (k - 1)) 0 → value ≡ getD s variable 0 → target ≡ getD f (edgePlace node value) 0
       → Visited f sizes offsets count s k node value target
-  visited {k} {node} {variable} {value} {target} low high n v d t =
+  visited tested {k} {node} {variable} {value} {target} low high n v d t =
       let element : At nodes (k - 1) (nodeIn f sizes node) = rw n (nodes-at f sizes offsets 0 count (k - 1) (k - 1) (omega arith) (omega arith)) in
       let rules = w .well-formed element in
-      let same : getD s (getD f node 0) 0 ≡ value = sym (d ∙ ap (λ (i : ℕ). getD s i 0) v) in
+      let var : variable ≡ getD f node 0 = v ∙ tested .variable (k - 1) (omega arith) ∙ ap (λ (p : ℕ). getD f p 0) (sym n) in
+      let same : getD s (getD f node 0) 0 ≡ value = sym (d ∙ ap (λ (i : ℕ). getD s i 0) var) in
       let there = at-getD (nodeIn f sizes node .edges) (getD s (getD f node 0) 0) (record { target = 0; weight = 0 }) (omega (arith, rules .edge-count, inside-at sizes s (getD f node 0) (w .inside) (rules .var-below))) in
       let edge = subst (λ (i : ℕ). At (nodeIn f sizes node .edges) i (edgeAt (nodeIn f sizes node) s)) same there in
       let below = at-length edge in
@@ -161,6 +162,6 @@ unfolding over
 wrote-first {first} {entries} {out} w = record { count = w .count; buffer = w .buffer ∙ ap (λ (rest : List ℕ). first ∷ (entries ++ rest)) (drop-set-lt (suc (length entries)) out 0 first (omega arith)) }
 
 -- What the edge of node k costs that is read for the value of a state.
-pub edge-paid : (f offsets : List ℕ) (count : ℕ) (s : List ℕ) (k : ℕ) {node variable value target weight : ℕ} → k ≤ count → node ≡ getD offsets (k - 1) 0 → variable ≡ getD f node 0 → value ≡ getD s variable 0
+pub edge-paid : (f offsets : List ℕ) (count : ℕ) (s : List ℕ) (k : ℕ) {node variable value target weight : ℕ} → k ≤ count → node ≡ getD offsets (k - 1) 0 → variable ≡ getD offsets (maxNodes + (k - 1)) 0 → value ≡ getD s variable 0
     → target ≡ getD f (edgePlace node value) 0 → weight ≡ wordAt f (edgePlace node value + 1) → k < target → wayFrom f offsets count s k .cost ≡ weight + wayFrom f offsets count s target .cost
-edge-paid f offsets count s k {node} h n v d t w up = let e = edge-is f node s v d refl t w in turn-up f offsets count s k n (e .0) (e .1) h up .0
+edge-paid f offsets count s k {node} {variable} h n v d t w up = let e = edge-is f node variable s d refl t w in turn-up f offsets count s k n v (e .0) (e .1) h up .0

@@ -18,15 +18,15 @@ use Rattle.facts.specs.State.{Inside}
 use Rattle.facts.specs.Write.{over, Wrote}
 use Rattle.facts.specs.Run.{next as went, attempt, atMost}
 use Rattle.facts.specs.RunLaws.{attempt-next, attempt-blocked, not-blocked, list-long}
-use Rattle.taskfile.specs.Task.{Action, Task, Walk, maxList, maxNodes, taskSum, Plan, WfAction}
+use Rattle.taskfile.specs.Task.{Action, Task, Walk, maxList, taskSum, Plan, WfAction}
 use Rattle.taskfile.specs.TaskFile.{readTask, checkTask, runTask}
 use Rattle.taskfile.specs.TaskReadLaws.{task-wf, task-limits}
 use Rattle.taskfile.specs.TaskLaws.{task-plan}
 use Rattle.taskfile.specs.Index.{Index, Ready}
-use Rattle.taskfile.specs.WalkInPlace.{incomingPlace, walkAt, performBy, performAt}
+use Rattle.taskfile.specs.WalkInPlace.{incomingPlace, nodeCount, walkAt, performBy, performAt}
 use Rattle.taskfile.specs.AnswerLaws.{there as task-there}
 use Rattle.compilation.specs.Compile.{stepCount}
-use Rattle.taskfile.specs.PartsInPlace.{actionIn, actionsIn}
+use Rattle.taskfile.specs.PartsInPlace.{actionIn, actionsIn, Tested}
 use Rattle.taskfile.specs.PartsInPlaceLaws.{reads, actions-stood, actions-in-place}
 use Rattle.compile.specs.ExtentLaws.{weighs}
 use Rattle.compile.specs.PutLaws.{Cut, Going, going-more, going-end}
@@ -35,7 +35,7 @@ use Rattle.plans.specs.ListLaws.{total-take}
 use Rattle.plans.specs.LengthLaws.{expand-limit}
 use Rattle.carry.specs.CarryFile.{expanded}
 use Rattle.carry.specs.InPlace.{Edges, Numbered, Writable, maxEntries, expansion, WroteIf, Prepared}
-use Rattle.carry.specs.NumberLaws.{actions-at, total-next, actionsOf, actions-are, steps-few}
+use Rattle.carry.specs.NumberLaws.{actions-at, total-next, actionsOf, actions-are, steps-few, all-tested}
 use Rattle.carry.specs.AnswerLaws.{entry-room, entry-more}
 use Rattle.carry.specs.SameSumLaws.{over-front, expanded-plan, fits-inv}
 
@@ -49,9 +49,10 @@ attempt-state pre eff cost s {e} {c} h = go (holds pre s) refl
 
 -- ---- the actions of a list, one after the other
 
--- The action of entry i of a list stands at an offset, with its own nodes and the first edges of these, with the number `first` of its start and the number `next` after its end: its
+-- The action of entry i of a list stands at an offset, with its own nodes, the variables that they test and the first edges of these, with the number `first` of its start and the number `next` after its end: its
 -- entries come next in the state s.
 pub record Entry (f sizes actions firsts nodes list s : List ℕ) (i at : ℕ) (own row : List ℕ) (first next : ℕ) : Type 0 where
+  pub tested : Tested f own (nodeCount f at)
   pub well-formed : WfAction sizes (actionIn f sizes at own)
   pub edges : Edges (actionIn f sizes at own .nodes) (1 + first) row
   pub next-is : next ≡ first + stepCount (actionIn f sizes at own)
@@ -77,6 +78,7 @@ module _ {f sizes actions incoming firsts nodes first-step first-edge : List ℕ
       let after = m ∙ ap (λ (k : ℕ). getD first-step k 0) (add-one a) ∙ p .numbered .numbers (suc a) (omega (arith, at-length element)) in
       rw (h, o, r, n ∙ p .numbered .numbers a (omega (arith, at-length element)), after)
       (record {
+        tested = p .tested .own a known;
         well-formed = p .well-formed element;
         edges = p .numbered .edges element;
         next-is = total-next stepCount element;
@@ -157,17 +159,17 @@ module _ (f : List ℕ) {i : Index} (ready : Ready f i) where
 
   -- All is prepared to write expansions.
   pub prepared : {sizes incoming first-step first-edge : List ℕ} → sizes ≡ t .sizes → ((a : ℕ) → a < length (take (i .actions) (i .starts)) → getD incoming a 0 ≡ incomingPlace f (getD (take (i .actions) (i .starts)) a 0))
-      → length first-edge ≡ maxNodes → Numbered (actionsOf f ready sizes) (i .firsts) first-step first-edge
+      → Numbered (actionsOf f ready sizes) (i .firsts) first-step first-edge
       → Prepared f sizes (take (i .actions) (i .starts)) incoming (i .firsts) (i .nodes) first-step first-edge
-  prepared {sizes} e noted long n =
+  prepared {sizes} e noted n =
       let same = actions-are f ready e in
       record {
         weighs = λ a l. weighs f (actions-stood f ready e a l) (noted a l);
+        tested = all-tested f ready;
         variables = omega (arith, ap length e, task-limits f (reads f ready) .variables);
         well-formed = λ {a} {x} h. subst (λ (ds : List ℕ). WfAction ds x) (sym e) (task-wf f (reads f ready) .actions (subst (λ (xs : List Action). At xs a x) same h));
         numbered = n;
         few = omega (arith, ap (total stepCount) same, steps-few f ready);
-        rows = long ∙ sym (ready .nodes-long);
       }
 
   -- What is written from the initial state on is the expansion.

@@ -13,7 +13,7 @@ use Rattle.taskfile.specs.PartsInPlace.{nodesIn, actionIn, actionsIn}
 use Rattle.compilation.specs.Compile.{stepCount}
 use Rattle.plans.specs.Carry.{expandFrom}
 use Rattle.carry.specs.CarryFile.{contracted}
-use Rattle.carry.specs.InPlace.{entriesOf, Writable, Numbered, Noted}
+use Rattle.carry.specs.InPlace.{AllTested, entriesOf, Writable, Numbered, Noted}
 use Rattle.carry.specs.declared.follow.Trail.{Trail}
 use Rattle.carry.specs.declared.follow.Trail.the-variants.{To, Astray}
 use Rattle.carry.specs.declared.follow.Followed.{Followed}
@@ -56,9 +56,10 @@ ActionTo f sizes at offsets s list from after Astray = Unit {0}
 
 -- ---- a whole list
 
--- what a list is followed by: each action is well-formed, its steps have their numbers, at most 576, and each start has its action
+-- what a list is followed by: each action is well-formed, the variables that its nodes test are noted, its steps have their numbers, at most 576, and each start has its action
 pub record Followable (f sizes actions firsts nodes first-step first-edge action-of : List ℕ) : Type 0 where
   pub well-formed : (a : ℕ) → a < length actions → WfAction sizes (actionIn f sizes (getD actions a 0) (drop (getD firsts a 0) nodes))
+  pub tested : AllTested f actions firsts nodes
   pub numbered : Numbered (actionsIn f sizes actions firsts nodes 0 (length actions)) firsts first-step first-edge
   pub few : total stepCount (actionsIn f sizes actions firsts nodes 0 (length actions)) ≤ 576
   pub noted : Noted (actionsIn f sizes actions firsts nodes 0 (length actions)) action-of

@@ -34,7 +34,7 @@ use Rattle.carry.specs.CarryFile.{contracted}
 use Rattle.carry.specs.InPlace.{entriesOf, Numbered, Noted, NotedIn}
 use Rattle.carry.specs.SameSumLaws.{over-front, contracted-plan}
 use Rattle.carry.specs.AnswerLaws.{wrote-entry}
-use Rattle.carry.specs.NumberLaws.{actions-at, total-next, actionsOf, actions-are, steps-few, actions-wf}
+use Rattle.carry.specs.NumberLaws.{actions-at, total-next, actionsOf, actions-are, steps-few, all-tested, actions-wf}
 use Rattle.carry.specs.ActionLaws.{Visited, path-entry, path-last}
 use Rattle.carry.specs.Follow.{Walkable, Followable, Path-passed, Action-passed, Plan-followed, PlanTo, ContractsTo}
 use Rattle.carry.specs.declared.follow.Followed.{Followed}
@@ -243,6 +243,7 @@ module _ (f : List ℕ) {i : Index} (ready : Ready f i) where
       → Followable f sizes (take (i .actions) (i .starts)) (i .firsts) (i .nodes) first-step first-edge action-of
   followable {action-of = action-of} e n noted = record {
     well-formed = actions-wf f ready e;
+    tested = all-tested f ready;
     numbered = n;
     few = omega (arith, ap (total stepCount) (actions-are f ready e), steps-few f ready);
     noted = subst (λ (xs : List Action). Noted xs action-of) (sym (actions-are f ready e)) (noted .noted t (reads f ready));

@@ -17,8 +17,13 @@ use Rattle.compile.specs.InPlace.{Weighs}
 use Rattle.plans.specs.Carry.{firstStep, pathSteps, startedBy}
 use Rattle.facts.specs.Lists.{total, At}
 use Rattle.taskfile.specs.InPlace.{nodesBefore}
-use Rattle.taskfile.specs.PartsInPlace.{actionsIn}
+use Rattle.taskfile.specs.WalkInPlace.{nodeCount}
+use Rattle.taskfile.specs.PartsInPlace.{actionsIn, Tested}
 use Rattle.carry.specs.CarryFile.{expanded}
+
+-- the variables that the nodes of each action test are noted behind their offsets
+pub record AllTested (f actions firsts nodes : List ℕ) : Type 0 where
+  pub own : (a : ℕ) → a < length actions → Tested f (drop (getD firsts a 0) nodes) (nodeCount f (getD actions a 0))
 
 -- There are at most 576 steps, `firsts` has for each action how many nodes the actions before it have, and there is room for so many nodes.
 pub record Rows (actions : List Action) (firsts : List ℕ) (room : ℕ) : Type 0 where
@@ -102,11 +107,11 @@ expansion f list = elim (expanded f list) [ accepted c ↦ c .0 | refused n p �
 pub record WroteIf (answer : Read ℕ) (entries before now : List ℕ) (n : ℕ) : Type 0 where
   pub wrote : {c : ℕ} → answer ≡ accepted c → Wrote entries before now n
 
--- what the probe list of a list of actions is written from: each action is well-formed and its incoming weight is noted, the steps have their numbers, and there are at most 24 variables and 576 steps
+-- what the probe list of a list of actions is written from: each action is well-formed, its incoming weight and the variables that its nodes test are noted, the steps have their numbers, and there are at most 24 variables and 576 steps
 pub record Prepared (f sizes actions incoming firsts nodes first-step first-edge : List ℕ) : Type 0 where
   pub weighs : (a : ℕ) → a < length actions → Weighs f (getD actions a 0) (getD incoming a 0)
+  pub tested : AllTested f actions firsts nodes
   pub variables : length sizes ≤ maxVariables
   pub well-formed : {a : ℕ} {x : Action} → At (actionsIn f sizes actions firsts nodes 0 (length actions)) a x → WfAction sizes x
   pub numbered : Numbered (actionsIn f sizes actions firsts nodes 0 (length actions)) firsts first-step first-edge
   pub few : total stepCount (actionsIn f sizes actions firsts nodes 0 (length actions)) ≤ 576
-  pub rows : length first-edge ≡ length nodes

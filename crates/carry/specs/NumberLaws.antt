@@ -1,5 +1,5 @@
 -- Laws of the numbers of steps, as the code notes them: each action's start, and the first edge of each of its nodes.
-use mathlib.Core.Path.{_≡_, refl, sym, ap, ap₂, subst, _∙_}
+use mathlib.Core.Path.{_≡_, refl, sym, ap, ap₂, subst, subst₂, _∙_}
 use Prim.Native.Nat.{ℕ, zero, suc, _+_, _-_, _≤_, _<_, min}
 use native.Mathlib.Numerals.{add-one}
 use native.Mathlib.Decide.{ℕ-discrete}
@@ -18,12 +18,12 @@ use Rattle.taskfile.specs.MoveInPlaceLaws.{own-nodes}
 use Rattle.taskfile.specs.WalkInPlace.{nodeCount}
 use Rattle.compilation.specs.Compile.{edgeCount, stepCount}
 use Rattle.compilation.specs.StepLaws.{steps-length, steps-most}
-use Rattle.taskfile.specs.PartsInPlace.{nodeIn, nodesIn, actionIn, actionsIn}
-use Rattle.taskfile.specs.PartsInPlaceLaws.{reads, located, actions-in-place}
+use Rattle.taskfile.specs.PartsInPlace.{nodeIn, nodesIn, actionIn, actionsIn, Tested}
+use Rattle.taskfile.specs.PartsInPlaceLaws.{reads, located, actions-stood, actions-in-place}
 use Rattle.compile.specs.InPlaceLaws.{edges-long}
 use Rattle.plans.specs.Carry.{firstStep}
 use Rattle.plans.specs.ListLaws.{total-take, at-same}
-use Rattle.carry.specs.InPlace.{Rows, Edges, Numbered}
+use Rattle.carry.specs.InPlace.{AllTested, Rows, Edges, Numbered}
 
 -- ---- actions in place, by number
 
@@ -47,6 +47,10 @@ module _ (f sizes actions firsts nodes : List ℕ) where
 pub lent-nodes : (f sizes nodes : List ℕ) (at n : ℕ) {k count : ℕ} → k ≡ min n (length nodes) → count ≡ nodeCount f at
     → nodesIn f sizes (take (length nodes - k) (drop k nodes)) 0 count ≡ actionIn f sizes at (drop n nodes) .nodes
 lent-nodes f sizes nodes at n e c = ap₂ (λ (own : List ℕ) (m : ℕ). nodesIn f sizes own 0 m) (own-nodes nodes n e) c
+
+-- The variables that they test.
+pub lent-tested : (f nodes : List ℕ) (at n : ℕ) {k count : ℕ} → k ≡ min n (length nodes) → count ≡ nodeCount f at → Tested f (drop n nodes) (nodeCount f at) → Tested f (take (length nodes - k) (drop k nodes)) count
+lent-tested f nodes at n e c h = subst₂ (Tested f) (sym (own-nodes nodes n e)) (sym c) h
 
 -- ---- what comes before an element
 
@@ -232,6 +236,10 @@ module _ (f : List ℕ) {i : Index} (ready : Ready f i) where
   rows-there {room = room} e l =
       subst (λ (xs : List Action). Rows xs (i .firsts) room) (sym (actions-are e))
       (record { few = steps-few; first-is = λ {a} {x} h. located f ready .first-is t (reads f ready) a x h; fits = omega (arith, task-limits f (reads f ready) .nodes) })
+
+  -- The variables of all nodes are noted.
+  pub all-tested : AllTested f (take (i .actions) (i .starts)) (i .firsts) (i .nodes)
+  all-tested = record { own = λ a l. actions-stood f ready refl a l .tested }
 
   -- Each is well-formed.
   pub actions-wf : {sizes : List ℕ} → sizes ≡ t .sizes → (a : ℕ) → a < length (take (i .actions) (i .starts)) → WfAction sizes (actionIn f sizes (getD (take (i .actions) (i .starts)) a 0) (drop (getD (i .firsts) a 0) (i .nodes)))

@@ -18,8 +18,8 @@ ghost use lib.ListN.{length, getD};
 ghost use Rattle.facts.specs.State.{Inside};
 ghost use Rattle.taskfile.specs.Index.{indexOf, Ready};
 ghost use Rattle.taskfile.specs.Task.{maxList};
-ghost use Rattle.taskfile.specs.WalkInPlace.{maxPassed};
-ghost use Rattle.taskfile.specs.PartsInPlace.{nodesIn, actionIn};
+ghost use Rattle.taskfile.specs.WalkInPlace.{maxPassed, nodeCount};
+ghost use Rattle.taskfile.specs.PartsInPlace.{nodesIn, actionIn, Tested};
 ghost use Rattle.carry.specs.Follow.{Walkable, PathTo, ActionTo, Followable, PlanTo, ContractsTo};
 
 // Where the entries of an action end in a list, and what it costs; or the list has other entries.
@@ -99,7 +99,7 @@ fn follow_list(
     actions: &mut [u16],
 ) -> Followed
     requires { ⌜ Followable (now file) (now sizes) (now «action_at») (now «first_node») (now «node_at») (now «first_step») (now «first_edge») (now «action_of») × Inside (now sizes) (now state) ⌝ }
-    requires { ⌜ (length (now «node_at») ≡ length (now «first_edge»)) × (length (now actions) ≤ maxList) ⌝ }
+    requires { ⌜ length (now actions) ≤ maxList ⌝ }
     ensures { λ r. ⌜ PlanTo (now (file .entry)) (now (sizes .entry)) goal (now («action_at» .entry)) (now («first_node» .entry)) (now («node_at» .entry)) (now (list .entry)) (now (state .entry)) (now (actions .exit)) r ⌝ }
 {
     let mut sum: u32 = 0;
@@ -115,12 +115,13 @@ fn follow_list(
         }
         let number = action - 1;
         let first = offset_within(first_node, number, node_at.len());
+        let row = offset_within(first_node, number, first_edge.len());
         let answer = follow_action(
             file,
             sizes,
             offset_at(action_at, number),
             &node_at[first..],
-            &first_edge[first..],
+            &first_edge[row..],
             offset_at(first_step, action),
             state,
             list,
@@ -152,7 +153,7 @@ fn follow_action(
     list: &[u16],
     from: usize,
 ) -> Trail
-    requires { ⌜ Walkable (now sizes) (actionIn (now file) (now sizes) at (now nodes) .nodes) (now «first_edge») (getD (now list) from 0) next (now state) × (from < length (now list)) ⌝ }
+    requires { ⌜ Walkable (now sizes) (actionIn (now file) (now sizes) at (now nodes) .nodes) (now «first_edge») (getD (now list) from 0) next (now state) × (from < length (now list)) × Tested (now file) (now nodes) (nodeCount (now file) at) ⌝ }
     ensures { λ r. ⌜ ActionTo (now (file .entry)) (now (sizes .entry)) at (now (nodes .entry)) (now (state .entry)) (now (list .entry)) from (now (state .exit)) r ⌝ }
 {
     match held_at(file, at, state) {
@@ -193,7 +194,7 @@ fn follow_path(
     list: &[u16],
     from: usize,
 ) -> Trail
-    requires { ⌜ Walkable (now sizes) (nodesIn (now file) (now sizes) (now nodes) 0 count) (now «first_edge») (getD (now list) from 0) next (now state) × (count ≤ maxPassed) × (from < length (now list)) ⌝ }
+    requires { ⌜ Walkable (now sizes) (nodesIn (now file) (now sizes) (now nodes) 0 count) (now «first_edge») (getD (now list) from 0) next (now state) × (count ≤ maxPassed) × (from < length (now list)) × Tested (now file) (now nodes) count ⌝ }
     ensures { λ r. ⌜ PathTo (now (file .entry)) (now (sizes .entry)) (now (nodes .entry)) count (now (state .entry)) (now (list .entry)) from r ⌝ }
 {
     let mut cost: u32 = 0;
@@ -203,7 +204,7 @@ fn follow_path(
         let j = k - 1;
         let node = offset_at(nodes, j);
         let value = past(list, i, offset_at(first_edge, j));
-        if byte_at(state, byte_at(file, node) as usize) as usize != value {
+        if byte_at(state, offset_at(nodes, Task::MAX_NODES + j)) as usize != value {
             return Trail::Astray;
         }
         let edge = edge_for(file, node, value as u8);

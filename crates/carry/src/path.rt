@@ -6,6 +6,7 @@ use facts::number::offset_at;
 use facts::number::word_at;
 use facts::partial::apply_at;
 use facts::partial::held_at;
+use taskfile::Task;
 use taskfile::walk::edge_for;
 ghost use mathlib.Core.Path.{_≡_};
 ghost use Prim.Native.Nat.{_*_, _≤_};
@@ -13,8 +14,8 @@ ghost use lib.ListN.{length};
 ghost use Rattle.facts.specs.Answers.{appliedMove, CostMost};
 ghost use Rattle.facts.specs.Write.{Wrote};
 ghost use Rattle.taskfile.specs.Task.{maxWeight};
-ghost use Rattle.taskfile.specs.WalkInPlace.{maxPassed, maxWalk, performAt, wayFrom};
-ghost use Rattle.taskfile.specs.PartsInPlace.{nodesIn, actionIn};
+ghost use Rattle.taskfile.specs.WalkInPlace.{maxPassed, maxWalk, nodeCount, performAt, wayFrom};
+ghost use Rattle.taskfile.specs.PartsInPlace.{nodesIn, actionIn, Tested};
 ghost use Rattle.compile.specs.InPlace.{Weighs};
 ghost use Rattle.plans.specs.Carry.{actionList};
 ghost use Rattle.carry.specs.Answers.{putEntries};
@@ -32,7 +33,7 @@ pub struct Path {
     pub written: usize,
 }
 
-// Does the action at an offset, whose incoming weight is at `incoming` and whose own nodes begin at the offsets `nodes`, and writes its step numbers: its start is step `first`, the next action's would be `next`, and `first_edge` has the number
+// Does the action at an offset, whose incoming weight is at `incoming` and whose own nodes are noted in `nodes`, and writes its step numbers: its start is step `first`, the next action's would be `next`, and `first_edge` has the number
 // of each node's first edge. Where its precondition does not hold nothing is written.
 pub fn put_action(
     file: &[u8],
@@ -47,7 +48,7 @@ pub fn put_action(
     out: &mut [u16],
 ) -> Put
     requires { ⌜ Weighs (now file) at incoming ⌝ }
-    requires { ⌜ Writable (now sizes) (actionIn (now file) (now sizes) at (now nodes) .nodes) (now «first_edge») first next (now state) (length (now out)) ⌝ }
+    requires { ⌜ Writable (now sizes) (actionIn (now file) (now sizes) at (now nodes) .nodes) (now «first_edge») first next (now state) (length (now out)) × Tested (now file) (now nodes) (nodeCount (now file) at) ⌝ }
     ensures { λ r. ⌜ appliedMove (r .answer) (now (state .exit)) ≡ performAt (now (file .entry)) at (now (nodes .entry)) (now (state .entry)) ⌝ }
     ensures { λ r. ⌜ CostMost maxWalk (r .answer) ⌝ }
     ensures { λ r. ⌜ Wrote (putEntries (r .answer) (actionList first (actionIn (now (file .entry)) (now (sizes .entry)) at (now (nodes .entry))) (now (state .entry)))) (now (out .entry)) (now (out .exit)) (r .written) ⌝ }
@@ -92,7 +93,7 @@ fn put_path(
     state: &[u8],
     out: &mut [u16],
 ) -> Path
-    requires { ⌜ (count ≤ maxPassed) × Writable (now sizes) (nodesIn (now file) (now sizes) (now nodes) 0 count) (now «first_edge») first next (now state) (length (now out)) ⌝ }
+    requires { ⌜ (count ≤ maxPassed) × Writable (now sizes) (nodesIn (now file) (now sizes) (now nodes) 0 count) (now «first_edge») first next (now state) (length (now out)) × Tested (now file) (now nodes) count ⌝ }
     ensures { λ r. ⌜ Wrote (entriesOf first (nodesIn (now (file .entry)) (now (sizes .entry)) (now (nodes .entry)) 0 count) (now (state .entry))) (now (out .entry)) (now (out .exit)) (r .written) ⌝ }
     ensures { λ r. ⌜ (r .cost ≡ wayFrom (now (file .entry)) (now (nodes .entry)) count (now (state .entry)) 1 .cost) × (r .cost ≤ maxWeight * maxPassed) ⌝ }
 {
@@ -101,9 +102,10 @@ fn put_path(
     let mut cost: u32 = 0;
     let mut k: usize = 1;
     while k <= count {
-        let node = offset_at(nodes, k - 1);
-        let value = byte_at(state, byte_at(file, node) as usize);
-        out[written] = (offset_at(first_edge, k - 1) + value as usize) as u16;
+        let j = k - 1;
+        let node = offset_at(nodes, j);
+        let value = byte_at(state, offset_at(nodes, Task::MAX_NODES + j));
+        out[written] = (offset_at(first_edge, j) + value as usize) as u16;
         written += 1;
         let edge = edge_for(file, node, value);
         cost += edge.weight;

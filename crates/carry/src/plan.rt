@@ -121,13 +121,14 @@ fn put_list(
             };
         }
         let first = offset_within(first_node, number, node_at.len());
+        let row = offset_within(first_node, number, first_edge.len());
         let put = put_action(
             file,
             sizes,
             action_at[number],
             offset_at(incoming_at, number),
             &node_at[first..],
-            &first_edge[first..],
+            &first_edge[row..],
             offset_at(first_step, number),
             offset_at(first_step, number + 1),
             state,

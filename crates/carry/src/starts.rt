@@ -12,11 +12,11 @@ ghost use lib.ListN.{length, getD, replicate};
 ghost use Rattle.facts.specs.Lists.{total};
 ghost use Rattle.facts.specs.Write.{Wrote};
 ghost use Rattle.taskfile.specs.Index.{indexOf, Ready};
-ghost use Rattle.taskfile.specs.PartsInPlace.{nodesIn, actionsIn};
+ghost use Rattle.taskfile.specs.PartsInPlace.{nodesIn, actionsIn, Tested};
 ghost use Rattle.compilation.specs.Compile.{edgeCount};
 ghost use Rattle.carry.specs.CarryFile.{contracted, answerIn, bufferIn};
 ghost use Rattle.carry.specs.Answers.{carriedAnswer, startsAnswer};
-ghost use Rattle.carry.specs.InPlace.{Rows, Edges, Numbered, NotedIn, noteFrom, contractIn, countIn, ProbePlanOf};
+ghost use Rattle.carry.specs.InPlace.{AllTested, Rows, Edges, Numbered, NotedIn, noteFrom, contractIn, countIn, ProbePlanOf};
 
 // Numbers the steps: notes the number of each action's start, past the last the number of all steps, and for each node, at its index in `node_at`, the number of its first edge.
 pub fn number_steps(
@@ -29,7 +29,7 @@ pub fn number_steps(
     first_edge: &mut [usize],
 )
     requires { ⌜ length (now «action_at») < length (now «first_step») ⌝ }
-    requires { ⌜ Rows (actionsIn (now file) (now sizes) (now «action_at») (now «first_node») (now «node_at») 0 (length (now «action_at»))) (now «first_node») (length (now «first_edge»)) ⌝ }
+    requires { ⌜ Rows (actionsIn (now file) (now sizes) (now «action_at») (now «first_node») (now «node_at») 0 (length (now «action_at»))) (now «first_node») (length (now «first_edge»)) × AllTested (now file) (now «action_at») (now «first_node») (now «node_at») ⌝ }
     ensures { λ r. ⌜ Numbered (actionsIn (now (file .entry)) (now (sizes .entry)) (now («action_at» .entry)) (now («first_node» .entry)) (now («node_at» .entry)) 0 (length (now («action_at» .entry)))) (now («first_node» .entry)) (now («first_step» .exit)) (now («first_edge» .exit)) ⌝ }
 {
     let mut next: usize = 0;
@@ -62,7 +62,7 @@ fn number_edges(
     from: usize,
     first_edge: &mut [usize],
 ) -> usize
-    requires { ⌜ (count ≤ length (now «first_edge»)) × (from + total edgeCount (nodesIn (now file) (now sizes) (now nodes) 0 count) ≤ 576) ⌝ }
+    requires { ⌜ (count ≤ length (now «first_edge»)) × (from + total edgeCount (nodesIn (now file) (now sizes) (now nodes) 0 count) ≤ 576) × Tested (now file) (now nodes) count ⌝ }
     ensures { λ r. ⌜ r ≡ from + total edgeCount (nodesIn (now (file .entry)) (now (sizes .entry)) (now (nodes .entry)) 0 count) ⌝ }
     ensures { λ r. ⌜ Edges (nodesIn (now (file .entry)) (now (sizes .entry)) (now (nodes .entry)) 0 count) from (now («first_edge» .exit)) ⌝ }
 {
@@ -70,7 +70,7 @@ fn number_edges(
     let mut j: usize = 0;
     while j < count as usize {
         first_edge[j] = next;
-        let variable = byte_at(file, offset_at(nodes, j)) as usize;
+        let variable = offset_at(nodes, Task::MAX_NODES + j);
         next += byte_at(sizes, variable) as usize;
         j += 1;
     }

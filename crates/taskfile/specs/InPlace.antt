@@ -1,6 +1,6 @@
 -- Diagrams in place: what code does that goes over the bytes of a file, without reading it into values, and what the index of a file holds.
 use mathlib.Core.Path.{_≡_}
-use Prim.Native.Nat.{ℕ, zero, suc, _+_, _<_}
+use Prim.Native.Nat.{ℕ, zero, suc, _+_, _≤_, _<_}
 use mathlib.Core.List.{List}
 use lib.Dec.{ltb}
 use lib.ListN.{length, getD, set, take}
@@ -11,6 +11,7 @@ use Rattle.facts.specs.Fields.{each, nextOf}
 use Rattle.taskfile.specs.Task.{Node, Action, Task, maxNodes}
 use Rattle.taskfile.specs.TaskFile.{edgeBytes, readNode, readNodes, readDiagram, readAction, readActions, readTask}
 use Rattle.taskfile.specs.WalkInPlace.{incomingPlace}
+use Rattle.taskfile.specs.PartsInPlace.{Tested}
 
 -- ---- the variables along the edges, by a row that has the variable of each node by its number
 
@@ -34,8 +35,9 @@ module _ (f sizes offsets levels : List ℕ) where
     _ ← targetsRise f levels (getD f (getD offsets j 0) 0) (getD sizes (getD f (getD offsets j 0) 0) 0) (getD offsets j 0 + 1)
     nodesRise (suc j) count
 
--- `levels` has the variable of each of m nodes that begin at these offsets, by its number, and the terminal's for each number past them
+-- The variable of each of m nodes that begin at these offsets is noted 64 entries behind its offset, and in `levels` by its number; for each number past them `levels` has the terminal's.
 pub record Levels (f : List ℕ) (m : ℕ) (offsets levels : List ℕ) : Type 0 where
+  pub tested : Tested f offsets m
   pub own : (j : ℕ) → j < m → getD levels (1 + j) terminalLevel ≡ getD f (getD offsets j 0) 0
   pub terminal : (k : ℕ) → m < k → getD levels k terminalLevel ≡ terminalLevel
 
@@ -53,12 +55,14 @@ pub record Marked (f sizes : List ℕ) (m from : ℕ) (offsets : List ℕ) : Typ
 unfoldable pub diagramAt : List ℕ → List ℕ → ℕ → ℕ → Read (ℕ × ℕ)
 diagramAt f sizes left at = withValue (λ p. (p .1, length (p .0))) (readDiagram f sizes left at)
 
--- The list of node offsets, which was `before` and is `after`: the nodes of the diagram at an offset, if it is accepted, are noted from index `used` on,
--- and what was noted before is kept.
+-- The list of node offsets and, 64 entries behind each, the variable that the node tests, which was `before` and is `after`: the nodes of the diagram at an offset, if it is accepted,
+-- are noted from index `used` on, and what was noted before is kept.
 pub record Placed (f sizes : List ℕ) (left at used : ℕ) (before after : List ℕ) : Type 0 where
   pub kept : (j : ℕ) → j < used → getD after j 0 ≡ getD before j 0
+  pub kept-tested : (j : ℕ) → used + left ≤ j → j < used + maxNodes → getD after j 0 ≡ getD before j 0
   pub lies : (nodes : List Node) (end : ℕ) → readDiagram f sizes left at ≡ accepted (nodes, end) → (j : ℕ) (nd : Node) → At nodes j nd
       → (next : ℕ) × (readNode f sizes (length nodes) (suc j) (getD after (used + j) 0) ≡ accepted (nd, next))
+  pub tested : (nodes : List Node) (end : ℕ) → readDiagram f sizes left at ≡ accepted (nodes, end) → (j : ℕ) (nd : Node) → At nodes j nd → getD after (used + (maxNodes + j)) 0 ≡ nd .var
 
 -- ---- actions
 
@@ -66,20 +70,23 @@ pub record Placed (f sizes : List ℕ) (left at used : ℕ) (before after : List
 unfoldable pub actionAt : List ℕ → List ℕ → ℕ → ℕ → Read (ℕ × ℕ)
 actionAt f sizes left at = withValue (λ p. (p .1, length (p .0 .nodes))) (readAction f sizes left at)
 
--- The list of node offsets, which was `before` and is `after`: the same as for a diagram, for the action at an offset.
+-- The same list, which was `before` and is `after`: the same as for a diagram, for the action at an offset.
 pub record Action-placed (f sizes : List ℕ) (left at used : ℕ) (before after : List ℕ) : Type 0 where
   pub kept : (j : ℕ) → j < used → getD after j 0 ≡ getD before j 0
+  pub kept-tested : (j : ℕ) → used + left ≤ j → j < used + maxNodes → getD after j 0 ≡ getD before j 0
   pub lies : (x : Action) (end : ℕ) → readAction f sizes left at ≡ accepted (x, end) → (j : ℕ) (nd : Node) → At (x .nodes) j nd
       → (next : ℕ) × (readNode f sizes (length (x .nodes)) (suc j) (getD after (used + j) 0) ≡ accepted (nd, next))
+  pub tested : (x : Action) (end : ℕ) → readAction f sizes left at ≡ accepted (x, end) → (j : ℕ) (nd : Node) → At (x .nodes) j nd → getD after (used + (maxNodes + j)) 0 ≡ nd .var
 
--- the action x is read at an offset, and its nodes at the offsets from index `first` on
+-- the action x is read at an offset, and its nodes at the offsets from index `first` on; 64 entries behind each is the variable that it tests
 pub record Lies (f sizes : List ℕ) (x : Action) (at first : ℕ) (nodes : List ℕ) : Type 0 where
   pub left : ℕ
   pub next : ℕ
   pub action : readAction f sizes left at ≡ accepted (x, next)
   pub node : (j : ℕ) (nd : Node) → At (x .nodes) j nd → (end : ℕ) × (readNode f sizes (length (x .nodes)) (suc j) (getD nodes (first + j) 0) ≡ accepted (nd, end))
+  pub tested : (j : ℕ) (nd : Node) → At (x .nodes) j nd → getD nodes (first + (maxNodes + j)) 0 ≡ nd .var
 
--- The row of an index: the offset of each action, and from these entries on where its effect and its incoming weight stand, which of all nodes is its first, and where each node starts; and how long the row is.
+-- The row of an index: the offset of each action, and from these entries on where its effect and its incoming weight stand, which of all nodes is its first, where each node starts and which variable it tests; and how long the row is.
 abbrev pub effectsFrom : ℕ
 effectsFrom = 32
 
@@ -92,8 +99,11 @@ firstsFrom = 96
 abbrev pub nodesFrom : ℕ
 nodesFrom = 128
 
+abbrev pub testedFrom : ℕ
+testedFrom = 192
+
 abbrev pub rowLong : ℕ
-rowLong = 192
+rowLong = testedFrom + maxNodes
 
 -- the row with the places of effect and incoming weight of action a, which begins at an offset
 abbrev pub frontNoted : List ℕ → ℕ → ℕ → List ℕ → List ℕ
@@ -120,7 +130,7 @@ pub record Listed (f sizes : List ℕ) (count from : ℕ) (actions firsts nodes 
 unfoldable pub taskAt : List ℕ → Read (ℕ × ℕ)
 taskAt f = withValue (λ t. (length (t .sizes), length (t .actions))) (readTask f)
 
--- the offset of each action of an accepted file, the number of its first node among all nodes, and the offset of each node
+-- the offset of each action of an accepted file, the number of its first node among all nodes, and the offset and the variable of each node
 pub record Located (f actions firsts nodes : List ℕ) : Type 0 where
   pub lies : (t : Task) → readTask f ≡ accepted t → (a : ℕ) (x : Action) → At (t .actions) a x → Lies f (t .sizes) x (getD actions a 0) (getD firsts a 0) nodes
   pub first-is : (t : Task) → readTask f ≡ accepted t → (a : ℕ) (x : Action) → At (t .actions) a x → getD firsts a 0 ≡ nodesBefore (t .actions) a

@@ -8,11 +8,11 @@ use native.Mathlib.Omega.{arith}
 use mathlib.Core.Bool.{Bool, true, false, _&&_}
 use mathlib.Core.List.{List, [], _∷_, _++_, map, append-nil}
 use lib.Dec.{leb, ltb}
-use lib.ListN.{length, getD, set, take, drop, replicate, length-append, length-drop, drop-of-length-le, List·getD-append}
+use lib.ListN.{length, getD, set, take, drop, replicate, length-append, length-set, length-drop, drop-of-length-le, List·getD-append}
 use lib.Seq.{getD-take, getD-drop, getD-set-same, getD-set-other, take-all, drop-at, length-take-le}
 use borrow.Rule.Slice.PartMut.{putMid}
 use borrow.Author.Tests.{le-leb, lt-leb, le-ltb, lt-ltb}
-use Rattle.facts.specs.Read.{Read, accepted, refused, check, withValue, _>>=_}
+use Rattle.facts.specs.Read.{Read, accepted, refused, check, _>>=_}
 use Rattle.facts.specs.ReadLaws.{not-refused, through, made, not-made, value-of}
 use Rattle.facts.specs.Lists.{upFrom, At, here, there}
 use Rattle.facts.specs.ListLaws.{length-upFrom, at-length, at-getD}
@@ -20,7 +20,7 @@ use Rattle.facts.specs.BytesLaws.{number-one}
 use Rattle.facts.specs.Fields.{each, nextOf, valueOf, readNumber, readCount, readWeight}
 use Rattle.facts.specs.EachLaws.{next-snoc, each-on, each-stops, each-at, each-length}
 use Rattle.facts.specs.FieldLaws.{Counted, byte-ends, byte-wrong, byte-good, number-reads, field-refused, field-good, count-read}
-use Rattle.taskfile.specs.Task.{Edge, Node, maxVariables, level}
+use Rattle.taskfile.specs.Task.{Edge, Node, maxVariables, maxNodes, level}
 use Rattle.taskfile.specs.TaskFile.{edgeBytes, nodeBytes, checkTargets, checkRising, readVariable, readTarget, readEdge, readEdges, readNode, readNodes, readDiagram}
 use Rattle.taskfile.specs.InPlace.{terminalLevel, targetsRise, nodesRise, Levels, readFirst, Marked, diagramAt, Placed}
 use Rattle.taskfile.specs.PartsInPlace.{Tests}
@@ -158,7 +158,7 @@ getD-within (x ∷ xs) zero d e h = refl
 getD-within (x ∷ xs) (suc k) d e h = getD-within xs k d e (omega arith)
 
 pub levels-none : {f offsets levels : List ℕ} → ((k : ℕ) → getD levels k terminalLevel ≡ terminalLevel) → Levels f 0 offsets levels
-levels-none h = record { own = λ j l. absurd (omega arith); terminal = λ k l. h k }
+levels-none h = record { tested = record { variable = λ j l. absurd (omega arith) }; own = λ j l. absurd (omega arith); terminal = λ k l. h k }
 
 -- a row that has nothing but the terminal
 pub all-terminal : (n k : ℕ) → getD (replicate n terminalLevel) k terminalLevel ≡ terminalLevel
@@ -166,21 +166,46 @@ all-terminal zero k = refl
 all-terminal (suc n) zero = refl
 all-terminal (suc n) (suc k) = all-terminal n k
 
+-- the offset of node j and the variable that it tests are noted
+abbrev pub nodeNoted : ℕ → ℕ → ℕ → List ℕ → List ℕ
+nodeNoted j at v offsets = set (set offsets (maxNodes + j) v) j at
+
+module _ (j at v : ℕ) (offsets : List ℕ) where
+  pub noted-length : length (nodeNoted j at v offsets) ≡ length offsets
+  noted-length = length-set (set offsets (maxNodes + j) v) j at ∙ length-set offsets (maxNodes + j) v
+
+  pub noted-other : (k : ℕ) → (k ≡ j → ⊥) → (k ≡ maxNodes + j → ⊥) → getD (nodeNoted j at v offsets) k 0 ≡ getD offsets k 0
+  noted-other k a b = getD-set-other (set offsets (maxNodes + j) v) j k at 0 a ∙ getD-set-other offsets (maxNodes + j) k v 0 b
+
+  module _ (fits : maxNodes + j < length offsets) where
+    noted-offset : getD (nodeNoted j at v offsets) j 0 ≡ at
+    noted-offset = getD-set-same (set offsets (maxNodes + j) v) j at 0 (omega (arith, fits, length-set offsets (maxNodes + j) v))
+
+    noted-tested : getD (nodeNoted j at v offsets) (maxNodes + j) 0 ≡ v
+    noted-tested = getD-set-other (set offsets (maxNodes + j) v) j (maxNodes + j) at 0 (λ q. omega (arith, q)) ∙ getD-set-same offsets (maxNodes + j) v 0 fits
+
 -- one node more is noted
-pub levels-more : {f offsets levels : List ℕ} {j : ℕ} (at : ℕ) {v : ℕ} → Levels f j offsets levels → j < length offsets → j + 1 < length levels → v ≡ getD f at 0
-    → Levels f (j + 1) (set offsets j at) (set levels (1 + j) v)
-levels-more {f} {offsets} {levels} {j} at {v} h o l e = record {
+pub levels-more : {f offsets levels : List ℕ} {j : ℕ} (at : ℕ) {v : ℕ} → Levels f j offsets levels → j < maxNodes → maxNodes + j < length offsets → j + 1 < length levels → v ≡ getD f at 0
+    → Levels f (j + 1) (nodeNoted j at v offsets) (set levels (1 + j) v)
+levels-more {f} {offsets} {levels} {j} at {v} h few o l e = record {
+  tested = record {
+    variable = λ k b. elim (decLe j k) [
+      | yes g ↦ let same : k ≡ j = omega (arith, g, b) in rw same (noted-tested j at v offsets o ∙ here)
+      | no g ↦ let less = lt-of-not-le g in noted-other j at v offsets (maxNodes + k) (λ q. omega (arith, few, q)) (λ q. omega (arith, less, q)) ∙ h .tested .variable k less ∙ before k less
+    ];
+  };
   own = λ k b. elim (decLe j k) [
-    | yes g ↦
-        let same : k ≡ j = omega (arith, g, b) in
-        subst (λ (i : ℕ). getD (set levels (1 + j) v) (1 + i) terminalLevel ≡ getD f (getD (set offsets j at) i 0) 0) (sym same)
-        (getD-set-same levels (1 + j) v terminalLevel (omega arith) ∙ e ∙ ap (λ (p : ℕ). getD f p 0) (sym (getD-set-same offsets j at 0 o)))
-    | no g ↦
-        let less = lt-of-not-le g in
-        getD-set-other levels (1 + j) (1 + k) v terminalLevel (λ q. omega (arith, less, q)) ∙ h .own k less ∙ ap (λ (p : ℕ). getD f p 0) (sym (getD-set-other offsets j k at 0 (λ q. omega (arith, less, q))))
+    | yes g ↦ let same : k ≡ j = omega (arith, g, b) in rw same (getD-set-same levels (1 + j) v terminalLevel (omega arith) ∙ here)
+    | no g ↦ let less = lt-of-not-le g in getD-set-other levels (1 + j) (1 + k) v terminalLevel (λ q. omega (arith, less, q)) ∙ h .own k less ∙ before k less
   ];
   terminal = λ k b. getD-set-other levels (1 + j) k v terminalLevel (λ q. omega (arith, b, q)) ∙ h .terminal k (omega (arith, b));
 }
+  where
+    here : v ≡ getD f (getD (nodeNoted j at v offsets) j 0) 0
+    here = e ∙ ap (λ (p : ℕ). getD f p 0) (sym (noted-offset j at v offsets o))
+
+    before : (k : ℕ) → k < j → getD f (getD offsets k 0) 0 ≡ getD f (getD (nodeNoted j at v offsets) k 0) 0
+    before k less = ap (λ (p : ℕ). getD f p 0) (sym (noted-other j at v offsets k (λ q. omega (arith, less, q)) (λ q. omega (arith, less, q))))
 
 -- ---- marking the nodes
 
@@ -346,12 +371,6 @@ module _ (f sizes : List ℕ) (left at : ℕ) where
   unfolding diagramAt readDiagram
   drawn-no-count h = rw (not-made (λ (p : ℕ × ℕ). p .0) (readCount f 0 left at) h)
 
-  -- where a diagram is refused there is nothing to place
-  pub placed-none : {used n p : ℕ} {before after : List ℕ} → diagramAt f sizes left at ≡ refused n p → ((j : ℕ) → j < used → getD after j 0 ≡ getD before j 0)
-      → Placed f sizes left at used before after
-  unfolding diagramAt
-  placed-none h g = record { kept = g; lies = λ nodes end r j nd a. absurd (not-refused (sym h ∙ ap (withValue (λ (p : List Node × ℕ). (p .1, length (p .0)))) r)) }
-
   module _ {m : ℕ} (h : valueOf (readCount f 0 left at) ≡ accepted m) where
     counted : Counted f 0 left at m (at + 1)
     counted =
@@ -397,18 +416,38 @@ module _ (f sizes : List ℕ) (left at : ℕ) where
           unfolding diagramAt readDiagram
           drawn-good e = rw (count-is, nodes-are, rises, e) (ap (λ (n : ℕ). accepted (end, n)) (sym (nodes-length f sizes m (at + 1) nodes-are)))
 
-    -- the nodes of an accepted diagram lie where they are noted
-    pub placed : {used : ℕ} {before last after : List ℕ} → Back used before last after → Marked f sizes m (at + 1) last → Placed f sizes left at used before after
-    placed {used} {before} {last} {after} b k = record { kept = b .kept; lies = there-they-lie }
-      where
-        there-they-lie : (nodes : List Node) (end : ℕ) → readDiagram f sizes left at ≡ accepted (nodes, end) → (j : ℕ) (nd : Node) → At nodes j nd
-            → (next : ℕ) × (readNode f sizes (length nodes) (suc j) (getD after (used + j) 0) ≡ accepted (nd, next))
-        there-they-lie nodes end r j nd a =
-            let d = diagram-read f sizes left at r in
-            let all : m ≡ length nodes = value-of (sym count-is ∙ d .count-is) in
-            let n = node-noted f sizes (length nodes) (at + 1) (d .nodes-are) (subst (λ (n : ℕ). Marked f sizes n (at + 1) last) all k) a in
-            let same : getD last j 0 ≡ getD after (used + j) 0 = ap (λ (xs : List ℕ). getD xs j 0) (sym (b .rest)) ∙ getD-drop used after j 0 in
-            (n .0, subst (λ (o : ℕ). readNode f sizes (length nodes) (suc j) o ≡ accepted (nd, n .0)) same (n .1))
+    -- the nodes of an accepted diagram lie where they are noted, with their variables
+    module _ {used : ℕ} {before last after : List ℕ} (b : Back used before last after) (k : Marked f sizes m (at + 1) last) {levels : List ℕ} (v : Levels f m last levels) where
+      -- an entry of the part that was lent
+      lent : (j : ℕ) → getD last j 0 ≡ getD after (used + j) 0
+      lent j = ap (λ (xs : List ℕ). getD xs j 0) (sym (b .rest)) ∙ getD-drop used after j 0
+
+      module _ {nodes : List Node} {end : ℕ} (r : readDiagram f sizes left at ≡ accepted (nodes, end)) {j : ℕ} {nd : Node} (a : At nodes j nd) where
+        all : m ≡ length nodes
+        all = value-of (sym count-is ∙ diagram-read f sizes left at r .count-is)
+
+        marked : Marked f sizes (length nodes) (at + 1) last
+        marked = subst (λ (n : ℕ). Marked f sizes n (at + 1) last) all k
+
+        there-it-lies : (next : ℕ) × (readNode f sizes (length nodes) (suc j) (getD after (used + j) 0) ≡ accepted (nd, next))
+        there-it-lies =
+            let n = node-noted f sizes (length nodes) (at + 1) (diagram-read f sizes left at r .nodes-are) marked a in
+            (n .0, subst (λ (o : ℕ). readNode f sizes (length nodes) (suc j) o ≡ accepted (nd, n .0)) (lent j) (n .1))
+
+        it-tests : getD after (used + (maxNodes + j)) 0 ≡ nd .var
+        it-tests = sym (lent (maxNodes + j)) ∙ v .tested .variable j (omega (arith, all, at-length a)) ∙ var-noted f sizes (length nodes) (at + 1) (diagram-read f sizes left at r .nodes-are) marked a
+
+      pub placed : ((j : ℕ) → m ≤ j → j < maxNodes → getD last j 0 ≡ getD (take (length before - used) (drop used before)) j 0) → Placed f sizes left at used before after
+      placed same = record {
+        kept = b .kept;
+        kept-tested = λ i l h.
+            let j = i - used in
+            let is : used + j ≡ i = omega (arith, l) in
+            let whole : take (length before - used) (drop used before) ≡ drop used before = take-all (length before - used) (drop used before) (omega (arith, length-drop used before)) in
+            subst (λ (i : ℕ). getD after i 0 ≡ getD before i 0) is (sym (lent j) ∙ same j (omega (arith, l, count-most)) (omega (arith, l, h)) ∙ ap (λ (xs : List ℕ). getD xs j 0) whole ∙ getD-drop used before j 0);
+        lies = λ nodes end r j nd a. there-it-lies r a;
+        tested = λ nodes end r j nd a. it-tests r a;
+      }
 
 -- what is noted in the part that was lent is noted in that part of the whole
 pub marked-part : (f sizes : List ℕ) (m from used : ℕ) (before : List ℕ) {last : List ℕ} → used ≤ length before → Marked f sizes m from last

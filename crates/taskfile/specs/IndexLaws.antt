@@ -51,13 +51,19 @@ module _ (f sizes : List ℕ) (left at : ℕ) where
         go (accepted p) = refl
         go (refused n p) = refl
 
+    -- its nodes are those of the diagram there
+    own-diagram : {x : Action} {end : ℕ} → readAction f sizes left at ≡ accepted (x, end) → readDiagram f sizes left place ≡ accepted (x .nodes, end)
+    own-diagram r =
+        let o = action-read f sizes left at r in
+        let same : o .place ≡ place = next-of (sym (o .front-is) ∙ front-is) in
+        ap (readDiagram f sizes left) (sym same) ∙ o .diagram-is
+
     pub action-placed : {used : ℕ} {before row after : List ℕ} → before ≡ row → Placed f sizes left place used before after → Action-placed f sizes left at used row after
     action-placed e p = record {
       kept = λ j l. p .kept j l ∙ ap (λ (xs : List ℕ). getD xs j 0) e;
-      lies = λ x end r j nd a.
-          let o = action-read f sizes left at r in
-          let same : o .place ≡ place = next-of (sym (o .front-is) ∙ front-is) in
-          p .lies (x .nodes) end (ap (readDiagram f sizes left) (sym same) ∙ o .diagram-is) j nd a;
+      kept-tested = λ j l h. p .kept-tested j l h ∙ ap (λ (xs : List ℕ). getD xs j 0) e;
+      lies = λ x end r. p .lies (x .nodes) end (own-diagram r);
+      tested = λ x end r. p .tested (x .nodes) end (own-diagram r);
     }
 
   -- what was answered of an action that was read
@@ -238,7 +244,13 @@ module _ {f sizes : List ℕ} {a from at used : ℕ} {actions firsts nodes : Lis
           let o = g .lies b y j in
           let n : b < a = omega (arith, at-length j, count-is) in
           rw (getD-set-other actions a b at 0 (λ q. omega arith), getD-set-other firsts a b used 0 (λ q. omega arith)) (
-            record { left = o .0 .left; next = o .0 .next; action = o .0 .action; node = λ k nd h. rw (p .kept (getD firsts b 0 + k) (omega (arith, at-length h))) (o .0 .node k nd h) },
+            record {
+              left = o .0 .left;
+              next = o .0 .next;
+              action = o .0 .action;
+              node = λ k nd h. rw (p .kept (getD firsts b 0 + k) (omega (arith, at-length h))) (o .0 .node k nd h);
+              tested = λ k nd h. p .kept-tested (getD firsts b 0 + (maxNodes + k)) (omega (arith, g .within)) (omega (arith, at-length h)) ∙ o .0 .tested k nd h;
+            },
             omega arith,
             o .2 ∙ ap (total size) (sym (take-append-le b (g .done) (x ∷ []) (omega (arith, at-length j)))),
           )
@@ -246,7 +258,7 @@ module _ {f sizes : List ℕ} {a from at used : ℕ} {actions firsts nodes : Lis
           let n : b ≡ a = j .0 ∙ count-is in
           subst (λ (z : Action). Lies f sizes z (getD (set actions a at) b 0) (getD (set firsts a used) b 0) nodes′ × (getD (set firsts a used) b 0 + size z ≤ used + size x) × (getD (set firsts a used) b 0 ≡ nodesBefore (g .done ++ (x ∷ [])) b)) (j .1)
           (rw (n, getD-set-same actions a at 0 l, getD-set-same firsts a used 0 m) (
-            record { left = left; next = next; action = r; node = λ k nd h. p .lies x next r k nd h },
+            record { left = left; next = next; action = r; node = λ k nd h. p .lies x next r k nd h; tested = λ k nd h. p .tested x next r k nd h },
             omega arith,
             sym (ap (total size) (take-at (g .done) (x ∷ []) a count-is) ∙ g .uses),
           ))
@@ -316,17 +328,24 @@ module _ {f sizes : List ℕ} {a from at used : ℕ} {row : List ℕ} (g : Rowed
       start : Fronts f a first
       start = fronts-kept (omega (arith, few)) (λ k l. getD-set-other row (firstsFrom + a) k used 0 (λ q. omega (arith, l, q))) (g .fronts)
 
-      -- an entry past the actions' fronts, before the nodes
-      behind : (k : ℕ) → firstsFrom ≤ k → k < nodesFrom + used → getD row′ k 0 ≡ getD first k 0
-      behind k l h = p .kept k h ∙ front-behind f (startNoted a at used row) a at few k l ∙ getD-set-other first a k at 0 (λ q. omega (arith, few, l, q))
+      -- an entry past the actions' fronts
+      behind : (k : ℕ) → firstsFrom ≤ k → getD (frontNoted f at a (startNoted a at used row)) k 0 ≡ getD first k 0
+      behind k l = front-behind f (startNoted a at used row) a at few k l ∙ getD-set-other first a k at 0 (λ q. omega (arith, few, l, q))
+
+      -- one of those about nodes that is kept
+      same : (j : ℕ) → getD row′ (nodesFrom + j) 0 ≡ getD (frontNoted f at a (startNoted a at used row)) (nodesFrom + j) 0 → getD (drop nodesFrom row′) j 0 ≡ getD (drop nodesFrom row) j 0
+      same j e = getD-drop nodesFrom row′ j 0 ∙ e ∙ behind (nodesFrom + j) (omega arith) ∙ getD-set-other row (firstsFrom + a) (nodesFrom + j) used 0 (λ q. omega (arith, few, q)) ∙ sym (getD-drop nodesFrom row j 0)
+
+      -- one of the new ones
+      new : (j : ℕ) → getD row′ (nodesFrom + used + j) 0 ≡ getD (drop nodesFrom row′) (used + j) 0
+      new j = ap (λ (k : ℕ). getD row′ k 0) (omega arith) ∙ sym (getD-drop nodesFrom row′ (used + j) 0)
 
       placed : Action-placed f sizes (maxNodes - used) at used (drop nodesFrom row) (drop nodesFrom row′)
       placed = record {
-        kept = λ j l. getD-drop nodesFrom row′ j 0 ∙ behind (nodesFrom + j) (omega arith) (omega (arith, l)) ∙ getD-set-other row (firstsFrom + a) (nodesFrom + j) used 0 (λ q. omega (arith, few, q)) ∙ sym (getD-drop nodesFrom row j 0);
-        lies = λ x end r j nd h.
-            let o = p .lies x end r j nd h in
-            let same : getD row′ (nodesFrom + used + j) 0 ≡ getD (drop nodesFrom row′) (used + j) 0 = ap (λ (k : ℕ). getD row′ k 0) (omega arith) ∙ sym (getD-drop nodesFrom row′ (used + j) 0) in
-            (o .0, subst (λ (k : ℕ). readNode f sizes (length (x .nodes)) (suc j) k ≡ accepted (nd, o .0)) same (o .1));
+        kept = λ j l. same j (p .kept (nodesFrom + j) (omega (arith, l)));
+        kept-tested = λ j l h. same j (p .kept-tested (nodesFrom + j) (omega (arith, l)) (omega (arith, h)));
+        lies = λ x end r j nd h. let o = p .lies x end r j nd h in (o .0, subst (λ (k : ℕ). readNode f sizes (length (x .nodes)) (suc j) k ≡ accepted (nd, o .0)) (new j) (o .1));
+        tested = λ x end r j nd h. sym (new (maxNodes + j)) ∙ p .tested x end r j nd h;
       }
 
       noted : Going f sizes (a + 1) from next (used + m) (startNoted a at used row) (set (drop firstsFrom row) a used) (drop nodesFrom row′)
@@ -339,4 +358,4 @@ module _ {f sizes : List ℕ} {a from at used : ℕ} {row : List ℕ} (g : Rowed
           going-kept noted
           (λ b l. p .kept b (omega (arith, l, few)) ∙ front-keeps f (startNoted a at used row) a at few b (omega (arith, l, few)))
           (λ b l.
-          getD-drop firstsFrom row′ b 0 ∙ behind (firstsFrom + b) (omega arith) (omega (arith, l, few)) ∙ sym (getD-drop firstsFrom first b 0) ∙ ap (λ (xs : List ℕ). getD xs b 0) (drop-set-add firstsFrom row a used))
+          getD-drop firstsFrom row′ b 0 ∙ p .kept (firstsFrom + b) (omega (arith, l, few)) ∙ behind (firstsFrom + b) (omega arith) ∙ sym (getD-drop firstsFrom first b 0) ∙ ap (λ (xs : List ℕ). getD xs b 0) (drop-set-add firstsFrom row a used))

@@ -1,4 +1,5 @@
 -- The parts of a task in place: what code works from that goes over the bytes of an accepted file, without reading it into values.
+use mathlib.Core.Path.{_≡_}
 use Prim.Native.Nat.{ℕ, zero, suc, _+_, _*_, _^_, _≤_, _<_}
 use mathlib.Core.List.{List, [], _∷_}
 use lib.ListN.{length, getD, drop}
@@ -53,9 +54,14 @@ module _ (f : List ℕ) where
     pub fits : at + (1 + edgeBytes * getD sizes (getD f at 0) 0) ≤ length f
     pub below : getD f at 0 < length sizes
 
+  -- 64 entries behind the offset of each of `count` nodes is the variable that it tests
+  pub record Tested (offsets : List ℕ) (count : ℕ) : Type 0 where
+    pub variable : (j : ℕ) → j < count → getD offsets (maxNodes + j) 0 ≡ getD f (getD offsets j 0) 0
+
   -- the action at an offset, whose own nodes begin at these offsets, is one of an accepted file
   pub record Stood (sizes : List ℕ) (at : ℕ) (offsets : List ℕ) : Type 0 where
     pub pre : Stands (length sizes) at
     pub eff : Stands (length sizes) (pastPartial f at)
     pub few : nodeCount f at ≤ maxNodes
     pub nodes : (j : ℕ) → j < nodeCount f at → Tests sizes (getD offsets j 0)
+    pub tested : Tested offsets (nodeCount f at)

@@ -124,6 +124,11 @@ module _ (f : List ℕ) {sizes : List ℕ} {x : Action} {at first : ℕ} {all : 
     eff = stands (eff-lies f l);
     few = omega (arith, count-is f l);
     nodes = λ j h. node-tests f (node-at (at-some (x .nodes) j (omega (arith, count-is f l)) .1));
+    tested = record {
+      variable = λ j h.
+          let nd = at-some (x .nodes) j (omega (arith, count-is f l)) in
+          getD-drop first all (maxNodes + j) 0 ∙ l .tested j (nd .0) (nd .1) ∙ sym (var-here f (node-at (nd .1)));
+    };
   }
 
 -- ---- the task of an accepted file with this index

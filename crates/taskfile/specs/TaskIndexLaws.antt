@@ -15,7 +15,7 @@ use Rattle.taskfile.specs.Task.{Action, Task, maxActions, maxNodes}
 use Rattle.taskfile.specs.TaskFile.{readActions, readTask, checkTask}
 use Rattle.taskfile.specs.TaskReadLaws.{task-read, task-limits}
 use Rattle.taskfile.specs.InPlace.{Lies, firstsFrom, nodesFrom, rowLong, Fronts, Listed, taskAt, Located}
-use Rattle.taskfile.specs.Index.{indexOf, Ready, indexAnswer, Noted}
+use Rattle.taskfile.specs.Index.{nodesLong, indexOf, Ready, indexAnswer, Noted}
 use Rattle.taskfile.specs.IndexLaws.{fronts-kept, actions-count}
 use Rattle.taskfile.specs.MoveInPlaceLaws.{located-actions, located-firsts}
 
@@ -61,7 +61,7 @@ module _ (f : List ℕ) where
       let few : length (t .actions) ≤ maxActions = task-limits f (m .answer) .actions in
       let starts = located-actions f (m .answer) (noted .located is) firstsFrom (omega (arith, few)) in
       let firsts = located-firsts f (m .answer) starts maxActions few in
-      let same : drop nodesFrom row ≡ take maxNodes (drop nodesFrom row) = sym (take-all maxNodes (drop nodesFrom row) (omega (arith, length-drop nodesFrom row, long))) in
+      let same : drop nodesFrom row ≡ take nodesLong (drop nodesFrom row) = sym (take-all nodesLong (drop nodesFrom row) (omega (arith, length-drop nodesFrom row, long))) in
       let at : (a : ℕ) → a < firstsFrom → getD (take firstsFrom row) a 0 ≡ getD row a 0 = λ a l. getD-take firstsFrom row a 0 l in
       record {
         counts = sym h ∙ is;
@@ -69,12 +69,12 @@ module _ (f : List ℕ) where
         fronts = fronts-kept (omega (arith, few, count)) at (noted .fronts is);
         starts-long = length-take-le firstsFrom row (omega (arith, long));
         firsts-long = length-take-le maxActions (drop firstsFrom row) (omega (arith, length-drop firstsFrom row, long));
-        nodes-long = length-take-le maxNodes (drop nodesFrom row) (omega (arith, length-drop nodesFrom row, long));
+        nodes-long = length-take-le nodesLong (drop nodesFrom row) (omega (arith, length-drop nodesFrom row, long));
       }
 
   -- and its parts lie inside it
   pub row-long : (row : List ℕ) {n k : ℕ} → Ready f (indexOf n k row) → rowLong ≤ length row
-  row-long row ready = omega (arith, ready .nodes-long, length-take maxNodes (drop nodesFrom row), length-drop nodesFrom row)
+  row-long row ready = omega (arith, ready .nodes-long, length-take nodesLong (drop nodesFrom row), length-drop nodesFrom row)
 
   pub index-refused : {n p : ℕ} → indexAnswer f rowLong ≡ refused n p → checkTask f ≡ refused n p
   unfolding indexAnswer

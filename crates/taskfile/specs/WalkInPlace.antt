@@ -8,7 +8,7 @@ use Rattle.facts.specs.Read.{Read, _>>=_}
 use Rattle.facts.specs.Partial.{Partial, partialAt, pastPartial}
 use Rattle.facts.specs.Fields.{wordAt}
 use Rattle.facts.specs.Run.{Move, next, blocked, attempt, runFrom, atMost}
-use Rattle.taskfile.specs.Task.{Edge, Walk, arrived, along, maxWeight, maxList}
+use Rattle.taskfile.specs.Task.{Edge, Walk, arrived, along, maxNodes, maxWeight, maxList}
 use Rattle.taskfile.specs.TaskFile.{edgeBytes}
 
 -- ---- the parts of an action at an offset
@@ -27,21 +27,21 @@ nodeCount f at = getD f (incomingPlace f at + 2) 0
 
 -- ---- its walk
 
--- the edge, for the state's value, of the node at an offset
-unfoldable pub edgeOf : List ℕ → ℕ → List ℕ → Edge
-edgeOf f node s =
-    let at = node + (1 + edgeBytes * getD s (getD f node 0) 0) in
+-- the edge, for the state's value, of the node at an offset that tests a variable
+unfoldable pub edgeOf : List ℕ → ℕ → ℕ → List ℕ → Edge
+edgeOf f node variable s =
+    let at = node + (1 + edgeBytes * getD s variable 0) in
     record { target = getD f at 0; weight = wordAt f (at + 1) }
 
--- the edge of node k, where `nodes` has the offset of each node from node 1 on
+-- the edge of node k, where `nodes` has the offset of each node from node 1 on, and the variables that they test from entry 64 on
 abbrev pub edgeFrom : List ℕ → List ℕ → List ℕ → ℕ → Edge
-edgeFrom f nodes s k = edgeOf f (getD nodes (k - 1) 0) s
+edgeFrom f nodes s k = edgeOf f (getD nodes (k - 1) 0) (getD nodes (maxNodes + (k - 1)) 0) s
 
 -- where a walk through m nodes goes on from node k by an edge to `target`: only up, and else to the terminal; in an accepted file it is the target
 unfoldable pub onward : ℕ → ℕ → ℕ → ℕ
 onward m k target = elim (ltb k target) [ true ↦ target | false ↦ suc m ]
 
--- a diagram with m nodes that begin at these offsets, in the state s
+-- a diagram with m nodes that are noted so, in the state s
 module _ (f nodes : List ℕ) (m : ℕ) (s : List ℕ) where
   -- the walk from node k on, which passes at most `left` nodes
   unfoldable pub wayUp : ℕ → ℕ → Walk
@@ -52,7 +52,7 @@ module _ (f nodes : List ℕ) (m : ℕ) (s : List ℕ) where
   unfoldable pub wayFrom : ℕ → Walk
   wayFrom k = wayUp (suc m - k) k
 
--- the walk of an action whose effect is at an offset, and whose own nodes begin at the offsets `nodes`, from node 1 on
+-- the walk of an action whose effect is at an offset, and whose own nodes are noted in `nodes`, from node 1 on
 unfoldable pub walkPast : List ℕ → ℕ → List ℕ → List ℕ → Walk
 walkPast f effect nodes s =
     let w = wayFrom f nodes (countPast f effect) s 1 in

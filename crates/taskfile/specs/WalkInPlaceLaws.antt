@@ -1,5 +1,5 @@
 -- Laws of walks in place: the ways in which a walk goes on, and that the walk of an action in place is that of the action that was read.
-use mathlib.Core.Path.{_≡_, refl, sym, ap, subst, subst₂, _∙_}
+use mathlib.Core.Path.{_≡_, refl, sym, ap, ap₂, subst, subst₂, _∙_}
 use Prim.Native.Nat.{ℕ, zero, suc, _+_, _*_, _-_, _≤_, _<_}
 use native.Mathlib.Nat.{lt-of-not-le}
 use native.Mathlib.Decide.{decLe}
@@ -19,7 +19,7 @@ use Rattle.facts.specs.PartialReadLaws.{Partial-read}
 use Rattle.facts.specs.FieldLaws.{Weighed, number-ends, count-read}
 use Rattle.facts.specs.InPlaceLaws.{word-cut, word-is, past-read, alike-past, alike-word, alike-byte}
 use Rattle.facts.specs.OperatorLaws.{Operator-read, operator-read}
-use Rattle.taskfile.specs.Task.{Edge, Node, Action, edgeAt, Walk, arrived, along, walkFrom, walk, WfAction}
+use Rattle.taskfile.specs.Task.{Edge, Node, Action, maxNodes, edgeAt, Walk, arrived, along, walkFrom, walk, WfAction}
 use Rattle.taskfile.specs.TaskFile.{edgeBytes}
 use Rattle.taskfile.specs.InPlace.{Lies}
 use Rattle.taskfile.specs.WalkLaws.{edge-there, edge-wf, walk-node, walk-terminal, walk-induction}
@@ -30,12 +30,12 @@ use Rattle.taskfile.specs.PartsInPlace.{edgeIn}
 
 -- ---- the edge of the node at an offset
 
-module _ (f : List ℕ) (node : ℕ) (s : List ℕ) where
-  pub edge-is : {v d at target weight : ℕ} → v ≡ getD f node 0 → d ≡ getD s v 0 → at ≡ node + (1 + edgeBytes * d) → target ≡ getD f at 0 → weight ≡ wordAt f (at + 1)
-      → (target ≡ edgeOf f node s .target) × (weight ≡ edgeOf f node s .weight)
+module _ (f : List ℕ) (node variable : ℕ) (s : List ℕ) where
+  pub edge-is : {d at target weight : ℕ} → d ≡ getD s variable 0 → at ≡ node + (1 + edgeBytes * d) → target ≡ getD f at 0 → weight ≡ wordAt f (at + 1)
+      → (target ≡ edgeOf f node variable s .target) × (weight ≡ edgeOf f node variable s .weight)
   unfolding edgeOf
-  edge-is {at = at} a b c t w =
-      let place : at ≡ node + (1 + edgeBytes * getD s (getD f node 0) 0) = c ∙ ap (λ (d : ℕ). node + (1 + edgeBytes * d)) (b ∙ ap (λ (v : ℕ). getD s v 0) a) in
+  edge-is {at = at} b c t w =
+      let place : at ≡ node + (1 + edgeBytes * getD s variable 0) = c ∙ ap (λ (d : ℕ). node + (1 + edgeBytes * d)) b in
       (t ∙ ap (λ (p : ℕ). getD f p 0) place, w ∙ ap (λ (p : ℕ). wordAt f (p + 1)) place)
 
 -- past the end of the file there is nothing
@@ -44,7 +44,7 @@ edge-none f node d h =
     let at = node + (1 + edgeBytes * d) in
     (sym (List·getD-eq-default f 0 (omega arith)), sym (word-cut f (at + 1) (number-ends f 2 (at + 1) (omega arith))))
 
--- ---- the walk through m nodes that begin at these offsets
+-- ---- the walk through m nodes that are noted in `nodes`
 
 onward-up : (m k target : ℕ) → k < target → onward m k target ≡ target
 unfolding onward
@@ -100,13 +100,13 @@ module _ (f nodes : List ℕ) (m : ℕ) (s : List ℕ) where
   pub way-ends : (k : ℕ) → k ≤ m → edge k .target ≤ k → wayFrom f nodes m s k ≡ along (edge k) arrived
   way-ends k h l = way-node k h ∙ ap (λ (n : ℕ). along (edge k) (wayFrom f nodes m s n)) (onward-end m k (edge k .target) l) ∙ ap (along (edge k)) (way-past (suc m) (omega arith))
 
-  -- one turn at node k, by an edge that was read at the node's offset
-  module _ (k : ℕ) {node target weight : ℕ} (n : node ≡ getD nodes (k - 1) 0) (t : target ≡ edgeOf f node s .target) (w : weight ≡ edgeOf f node s .weight) (h : k ≤ m) where
+  -- one turn at node k, by an edge that was read at the node's offset for the variable that it tests
+  module _ (k : ℕ) {node variable target weight : ℕ} (n : node ≡ getD nodes (k - 1) 0) (v : variable ≡ getD nodes (maxNodes + (k - 1)) 0) (t : target ≡ edgeOf f node variable s .target) (w : weight ≡ edgeOf f node variable s .weight) (h : k ≤ m) where
     target-same : target ≡ edge k .target
-    target-same = t ∙ ap (λ (o : ℕ). edgeOf f o s .target) n
+    target-same = t ∙ ap₂ (λ (o i : ℕ). edgeOf f o i s .target) n v
 
     weight-same : weight ≡ edge k .weight
-    weight-same = w ∙ ap (λ (o : ℕ). edgeOf f o s .weight) n
+    weight-same = w ∙ ap₂ (λ (o i : ℕ). edgeOf f o i s .weight) n v
 
     pub turn-up : k < target → (wayFrom f nodes m s k .cost ≡ weight + wayFrom f nodes m s target .cost) × (wayFrom f nodes m s k .passed ≡ 1 + wayFrom f nodes m s target .passed)
     turn-up l = let e = way-up k h (rw target-same at l) in rw (target-same, weight-same) (ap (λ (x : Walk). x .cost) e, ap (λ (x : Walk). x .passed) e ∙ omega arith)
@@ -238,11 +238,11 @@ module _ (f : List ℕ) {sizes : List ℕ} {x : Action} {at first : ℕ} {all : 
         let e = node-edge f n (edge-there wf s inside h) at refl in
         let k : suc j - 1 ≡ j = omega arith in
         let place : getD nodes (suc j - 1) 0 ≡ node = ap (λ (i : ℕ). getD nodes i 0) k ∙ getD-drop first all j 0 in
-        let var : nd .var ≡ getD f node 0 = sym (n .var .value) ∙ number-one f node (omega (arith, n .var .fits)) in
+        let var : getD nodes (maxNodes + (suc j - 1)) 0 ≡ nd .var = ap (λ (i : ℕ). getD nodes (maxNodes + i) 0) k ∙ getD-drop first all (maxNodes + j) 0 ∙ l .tested j nd h in
         let t : edgeAt nd s .target ≡ getD f at 0 = sym (e .target) ∙ number-one f at (omega (arith, e .fits)) in
         let w : edgeAt nd s .weight ≡ wordAt f (at + 1) = sym (word-is f (at + 1) (omega (arith, e .fits)) (e .weight)) in
-        let q = edge-is f node s var refl refl t w in
-        ap (λ (p : ℕ). edgeOf f p s) place ∙ (λ i. record { target = sym (q .0) i; weight = sym (q .1) i })
+        let q = edge-is f node (nd .var) s refl refl t w in
+        ap₂ (λ (p v : ℕ). edgeOf f p v s) place var ∙ (λ i. record { target = sym (q .0) i; weight = sym (q .1) i })
 
     way-in-place : wayFrom f nodes m s 1 ≡ walkFrom 1 (x .nodes) 1 s
     way-in-place =

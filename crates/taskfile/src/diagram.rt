@@ -1,4 +1,4 @@
-// Diagrams in place: past one, with every check, noting where each node starts.
+// Diagrams in place: past one, with every check, noting where each node starts and which variable it tests.
 use crate::Drawn;
 use crate::Task;
 use facts::Checked;
@@ -14,6 +14,7 @@ ghost use lib.ListN.{length, getD};
 ghost use Rattle.facts.specs.Read.{accepted};
 ghost use Rattle.facts.specs.Answers.{pastAnswer, checkedAnswer};
 ghost use Rattle.facts.specs.Fields.{nextOf};
+ghost use Rattle.taskfile.specs.Task.{maxNodes};
 ghost use Rattle.taskfile.specs.TaskFile.{edgeBytes, readTarget, readEdge, readEdges, readNode, readNodes};
 ghost use Rattle.taskfile.specs.Answers.{drawnAnswer};
 ghost use Rattle.taskfile.specs.InPlace.{targetsRise, nodesRise, Levels, Marked, nodesFrom, rowLong, diagramAt, Placed};
@@ -31,16 +32,11 @@ const TERMINAL: u8 = 255;
 // A row of variables by number has an entry for each node, one at 0 and one for the terminal.
 const LEVELS: usize = Task::MAX_NODES + 2;
 
-// Past a diagram, which may have as many nodes as are not used yet; its nodes' offsets are noted in the row of the index, after those that are used.
-pub fn diagram_end(
-    file: &[u8],
-    at: usize,
-    sizes: &[u8],
-    used: usize,
-    row: &mut [usize],
-) -> Drawn
+// Past a diagram, which may have as many nodes as are not used yet; its nodes' offsets and variables are noted in the row of the index, after those that are used.
+pub fn diagram_end(file: &[u8], at: usize, sizes: &[u8], used: usize, row: &mut [usize]) -> Drawn
     requires { ⌜ (used ≤ 64) × (rowLong ≤ length (now row)) × (length (now sizes) ≤ 24) ⌝ }
-    ensures { λ r. ⌜ (drawnAnswer r ≡ diagramAt (now (file .entry)) (now (sizes .entry)) (64 - used) at) × Placed (now (file .entry)) (now (sizes .entry)) (64 - used) at (nodesFrom + used) (now (row .entry)) (now (row .exit)) ⌝ }
+    ensures { λ r. ⌜ drawnAnswer r ≡ diagramAt (now (file .entry)) (now (sizes .entry)) (64 - used) at ⌝ }
+    ensures { λ r. ⌜ ((p : ℕ × ℕ) → drawnAnswer r ≡ accepted p → Placed (now (file .entry)) (now (sizes .entry)) (64 - used) at (nodesFrom + used) (now (row .entry)) (now (row .exit))) ⌝ }
 {
     match facts::head::read_count(file, at, 0, (Task::MAX_NODES - used) as u64) {
         Field::Refused(why) => Drawn::Refused(why),
@@ -59,7 +55,7 @@ pub fn diagram_end(
     }
 }
 
-// Past the m nodes of a diagram, noting where each starts, and its variable by its number.
+// Past the m nodes of a diagram, noting where each starts, and its variable beside that and by its number.
 fn nodes_end(
     file: &[u8],
     from: usize,
@@ -68,15 +64,18 @@ fn nodes_end(
     offsets: &mut [usize],
     levels: &mut [u8],
 ) -> Past
-    requires { ⌜ (m ≤ length (now offsets)) × (m < length (now levels)) × ((k : ℕ) → getD (now levels) k 255 ≡ 255) ⌝ }
+    requires { ⌜ (m ≤ maxNodes) × (maxNodes + m ≤ length (now offsets)) × (m < length (now levels)) × ((k : ℕ) → getD (now levels) k 255 ≡ 255) ⌝ }
     ensures { λ r. ⌜ (pastAnswer r ≡ nextOf (readNodes (now (file .entry)) (now (sizes .entry)) m from)) × Marked (now (file .entry)) (now (sizes .entry)) m from (now (offsets .exit)) ⌝ }
     ensures { λ r. ⌜ ((end : ℕ) → pastAnswer r ≡ accepted end → Levels (now (file .entry)) m (now (offsets .exit)) (now (levels .exit))) ⌝ }
+    ensures { λ r. ⌜ ((k : ℕ) → m ≤ k → k < maxNodes → getD (now (offsets .exit)) k 0 ≡ getD (now (offsets .entry)) k 0) ⌝ }
 {
     let mut at = from;
     let mut j: usize = 0;
     while j < m {
+        let variable = byte_at(file, at);
+        offsets[Task::MAX_NODES + j] = variable as usize;
         offsets[j] = at;
-        levels[1 + j] = byte_at(file, at);
+        levels[1 + j] = variable;
         match node_end(file, at, sizes, m, 1 + j) {
             Past::Next(next) => {
                 at = next;

@@ -1,4 +1,4 @@
-// The one pass over a task file that checks it and notes where its actions and nodes start.
+// The one pass over a task file that checks it and notes where its actions and nodes start, and which variables the nodes test.
 use crate::Counted;
 use crate::Drawn;
 use crate::Task;
@@ -20,7 +20,7 @@ ghost use Rattle.taskfile.specs.Answers.{drawnAnswer, countedAnswer};
 ghost use Rattle.taskfile.specs.InPlace.{actionAt, Action-placed, frontNoted, firstsFrom, nodesFrom, rowLong, Fronts, Listed, taskAt};
 ghost use Rattle.taskfile.specs.Index.{Noted};
 
-// How many variables and actions a task file has; where each action, its effect and its incoming weight stand, which of all nodes is its first, and where each node starts.
+// How many variables and actions a task file has; where each action, its effect and its incoming weight stand, which of all nodes is its first, where each node starts and which variable it tests.
 pub fn index_into(file: &[u8], row: &mut [usize]) -> Counted
     requires { ⌜ rowLong ≤ length (now row) ⌝ }
     ensures { λ r. ⌜ (countedAnswer r ≡ taskAt (now (file .entry))) × Noted (now (file .entry)) (countedAnswer r) (now (row .exit)) ⌝ }

@@ -11,7 +11,7 @@ ghost use Rattle.taskfile.specs.Answers.{countedAnswer};
 ghost use Rattle.taskfile.specs.Index.{indexAnswer, Noted};
 
 // How many variables and actions a task has. What else its index has stands in a row that the caller lends: where each action starts, and then where its effect and its incoming weight stand; which of all
-// nodes is its first, and where each node starts.
+// nodes is its first, where each node starts and which variable it tests.
 pub struct Task {
     pub variables: usize,
     pub actions: usize,
@@ -30,7 +30,7 @@ impl Task {
 
     pub const MAX_LIST: usize = 256;
 
-    // From which entries of the row on the places of effects and of incoming weights, the first nodes and the nodes are, and how long the row is.
+    // From which entries of the row on the places of effects and of incoming weights, the first nodes, the nodes and the variables that they test are, and how long the row is.
     pub const EFFECTS: usize = 32;
 
     pub const INCOMING: usize = 64;
@@ -39,7 +39,9 @@ impl Task {
 
     pub const NODES: usize = 128;
 
-    pub const ROW: usize = 192;
+    pub const TESTED: usize = 192;
+
+    pub const ROW: usize = Task::TESTED + Task::MAX_NODES;
 }
 
 // Where the next field starts, and how many nodes the diagram before it has.

@@ -1,4 +1,5 @@
 // Walks in place: the cost of an action in a state.
+use crate::Task;
 use facts::number::byte_at;
 use facts::number::offset_at;
 use facts::number::word_at;
@@ -34,7 +35,7 @@ pub struct Diagram {
     pub count: usize,
 }
 
-// The walk of the action at an offset, whose own nodes begin at the offsets `nodes`.
+// The walk of the action at an offset, whose own nodes are noted in `nodes`: where each begins, and `Task::MAX_NODES` entries behind that the variable that it tests.
 pub fn walk_at(file: &[u8], at: usize, nodes: &[usize], state: &[u8]) -> Walked
     ensures { λ r. ⌜ (r .cost ≡ walkAt (now (file .entry)) at (now (nodes .entry)) (now (state .entry)) .cost) × (r .passed ≡ walkAt (now (file .entry)) at (now (nodes .entry)) (now (state .entry)) .passed) × (r .cost ≤ maxWalk) × (r .passed ≤ maxPassed) ⌝ }
 {
@@ -97,7 +98,8 @@ fn way_up(file: &[u8], nodes: &[usize], count: usize, state: &[u8]) -> Walked
     let mut passed: usize = 0;
     let mut k: usize = 1;
     while k <= count {
-        let edge = edge_at(file, offset_at(nodes, k - 1), state);
+        let variable = offset_at(nodes, Task::MAX_NODES + (k - 1));
+        let edge = edge_at(file, offset_at(nodes, k - 1), variable, state);
         cost += edge.weight;
         passed += 1;
         if edge.target <= k {
@@ -108,11 +110,10 @@ fn way_up(file: &[u8], nodes: &[usize], count: usize, state: &[u8]) -> Walked
     Walked { cost, passed }
 }
 
-// The edge, for the state's value, of the node at an offset.
-fn edge_at(file: &[u8], node: usize, state: &[u8]) -> Edge
-    ensures { λ r. ⌜ (r .target ≡ edgeOf (now (file .entry)) node (now (state .entry)) .target) × (r .weight ≡ edgeOf (now (file .entry)) node (now (state .entry)) .weight) × (r .weight ≤ maxWeight) ⌝ }
+// The edge, for the state's value, of the node at an offset, which tests a variable.
+fn edge_at(file: &[u8], node: usize, variable: usize, state: &[u8]) -> Edge
+    ensures { λ r. ⌜ (r .target ≡ edgeOf (now (file .entry)) node variable (now (state .entry)) .target) × (r .weight ≡ edgeOf (now (file .entry)) node variable (now (state .entry)) .weight) × (r .weight ≤ maxWeight) ⌝ }
 {
-    let variable = byte_at(file, node) as usize;
     edge_for(file, node, byte_at(state, variable))
 }
 

@@ -44,7 +44,7 @@ returns-3 : tie.Need-returns-3
 returns-3 c =
     let s = c .before .before .before .before .before .before .before .before .before .before .before .before .before .before .before in
     let f = now (s .args .file) in
-    let own-walk = ap (λ (ns : List ℕ). walkAt f (getD (take 96 (now (s .args .row))) (s .args .action) 0) ns (now (s .args .state)) .cost) (own-nodes (take 64 (drop 128 (now (s .args .row)))) (getD (take 32 (drop 96 (now (s .args .row)))) (s .args .action) 0) (c .before .before .before .offset-within .ensures)) in
+    let own-walk = ap (λ (ns : List ℕ). walkAt f (getD (take 96 (now (s .args .row))) (s .args .action) 0) ns (now (s .args .state)) .cost) (own-nodes (take 128 (drop 128 (now (s .args .row)))) (getD (take 32 (drop 96 (now (s .args .row)))) (s .args .action) 0) (c .before .before .before .offset-within .ensures)) in
     sym (ask-is f (s .pre) checkState cost (s .args .action) (now (s .args .state)) (c .before .before .before .before .before .before .before .before .if1 .left) (same s)
     (sym (c .before .before .before .before .before .before .check-state .ensures) ∙ ap checkedAnswer (c .before .before .before .before .enum-told .given .1))
     (λ x h ok. c .walk-at .ensures .0 ∙ own-walk ∙ walk-cost f (s .pre) (s .args .action) (now (s .args .state)) h ok))

@@ -62,7 +62,7 @@ returns c =
     let a = s .args in
     let goal : 1 + a .variables + a .variables ≡ 1 + 2 * a .variables = omega arith in
     c .before .run-list .ensures .0
-    ∙ ap₂ (λ (at : ℕ) (state : List ℕ). runList (length (take (a .actions) (take 96 (now (a .row))))) (moveAt (now (a .file)) (take (a .actions) (take 96 (now (a .row)))) (take 32 (drop 96 (now (a .row)))) (take 64 (drop 128 (now (a .row))))) (partialAt (now (a .file)) at) (now (a .list)) state) goal (state-is (c .before .before .before .before .before) ∙ init-is s)
+    ∙ ap₂ (λ (at : ℕ) (state : List ℕ). runList (length (take (a .actions) (take 96 (now (a .row))))) (moveAt (now (a .file)) (take (a .actions) (take 96 (now (a .row)))) (take 32 (drop 96 (now (a .row)))) (take 128 (drop 128 (now (a .row))))) (partialAt (now (a .file)) at) (now (a .list)) state) goal (state-is (c .before .before .before .before .before) ∙ init-is s)
     ∙ sym (run-is (now (a .file)) (s .pre) (now (a .list)))
 
 pub run-in-spec : {M : Type 1} → statement M

@@ -12,7 +12,7 @@ use Rattle.facts.specs.Run.{next}
 use Rattle.taskfile.specs.MoveInPlaceLaws.{performs}
 use Rattle.taskfile.specs.WalkInPlace.{nodeCount}
 use Rattle.taskfile.specs.WalkInPlaceLaws.{count-behind, cost-is}
-use Rattle.taskfile.specs.PartsInPlace.{nodesIn}
+use Rattle.taskfile.specs.PartsInPlace.{nodesIn, Tested}
 use Rattle.carry.specs.Follow.{Walkable, Passed, PathTo, Path-passed}
 use borrow.Author.Needs.{needs}
 use Rattle.carry.proofs.follow.follow_action.Statement.{statement}
@@ -36,7 +36,7 @@ follow-path-requires : tie.Need-follow-path-requires
 follow-path-requires c κs =
     let s = c .before .before .before .before .before .before .before .before .before .before .before .before .before in
     let a = s .args in
-    (subst (λ (k : ℕ). Walkable (now (a .sizes)) (nodesIn (now (a .file)) (now (a .sizes)) (now (a .nodes)) 0 k) (now (a .first-edge)) (getD (now (a .list)) (a .from) 0) (a .next) (now (a .state))) (sym (count-is (c .before))) (s .pre .0), c .before .diagram-past .ensures .3, s .pre .1)
+    (subst (λ (k : ℕ). Walkable (now (a .sizes)) (nodesIn (now (a .file)) (now (a .sizes)) (now (a .nodes)) 0 k) (now (a .first-edge)) (getD (now (a .list)) (a .from) 0) (a .next) (now (a .state))) (sym (count-is (c .before))) (s .pre .0), c .before .diagram-past .ensures .3, s .pre .1, subst (Tested (now (a .file)) (now (a .nodes))) (sym (count-is (c .before))) (s .pre .2))
 
 returns-3 : tie.Need-returns-3
 returns-3 c =

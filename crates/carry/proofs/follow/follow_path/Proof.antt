@@ -17,7 +17,7 @@ abbrev μ-loop : tie.MeasureT-loop
 μ-loop file sizes nodes count first-edge next state list from cost₀ i₀ k₀ cost i k = suc count - k
 
 -- the entry is that of the edge for the state's value
-value-is : (c : tie.Else1 Inv-loop μ-loop) → c .before .before .before .past .result ≡ c .before .byte-at2 .result
+value-is : (c : tie.Else1 Inv-loop μ-loop) → c .before .before .before .past .result ≡ c .before .byte-at .result
 value-is c = omega (arith, c .if1 .left)
 
 small : (c : tie.Else1 Inv-loop μ-loop) → c .before .before .before .past .result < 256
@@ -27,7 +27,7 @@ small c = omega (arith, value-is c)
 there : (c : tie.After-edge-for Inv-loop μ-loop) → let a = c .before .before .before .before .before .before .before .before .before .before .before .before .before .before .before .args in Visited (now (a .file)) (now (a .sizes)) (now (a .nodes)) (a .count) (now (a .state)) (c .before .before .before .before .before .before .before .before .loop .k) (c .before .before .before .before .before .before .offset-at .result) (c .before .before .before .before .past .result) (c .edge-for .result .target)
 there c =
     let a = c .before .before .before .before .before .before .before .before .before .before .before .before .before .before .before .args in
-    visited (now (a .file)) (now (a .sizes)) (now (a .nodes)) (a .count) (c .before .before .before .before .before .before .before .before .before .before .before .before .before .before .before .pre .0) (c .before .before .before .before .before .before .before .before .loop .inv .low) (c .before .before .before .before .before .before .before .loop-test .taken) (c .before .before .before .before .before .before .offset-at .ensures) (c .before .before .before .byte-at .ensures) (value-is (c .before) ∙ c .before .before .byte-at2 .ensures) (c .edge-for .ensures .0)
+    visited (now (a .file)) (now (a .sizes)) (now (a .nodes)) (a .count) (c .before .before .before .before .before .before .before .before .before .before .before .before .before .before .before .pre .0) (c .before .before .before .before .before .before .before .before .before .before .before .before .before .before .before .pre .3) (c .before .before .before .before .before .before .before .before .loop .inv .low) (c .before .before .before .before .before .before .before .loop-test .taken) (c .before .before .before .before .before .before .offset-at .ensures) (c .before .before .before .offset-at3 .ensures) (value-is (c .before) ∙ c .before .before .byte-at .ensures) (c .edge-for .ensures .0)
 
 -- the last entry is the end
 ends : (c : tie.Else2 Inv-loop μ-loop) → (c .before .before .before .loop .i < length (now (c .before .before .before .before .before .before .before .before .before .before .args .list))) × (getD (now (c .before .before .before .before .before .before .before .before .before .before .args .list)) (c .before .before .before .loop .i) 0 ≡ c .before .before .before .before .before .before .before .before .before .before .args .next - 1)
@@ -43,7 +43,7 @@ loop-again c =
     let is = c .before .before .before .before .before .past .ensures (small (c .before .before)) in
     let edge = c .before .edge-for .ensures in
     let v = there (c .before) in
-    let paid = edge-paid (now (a .file)) (now (a .nodes)) (a .count) (now (a .state)) (c .before .before .before .before .before .before .before .before .before .loop .k) (c .before .before .before .before .before .before .before .before .loop-test .taken) (c .before .before .before .before .before .before .before .offset-at .ensures) (c .before .before .before .before .byte-at .ensures) (value-is (c .before .before) ∙ c .before .before .before .byte-at2 .ensures) (edge .0) (edge .1) (v .above) in
+    let paid = edge-paid (now (a .file)) (now (a .nodes)) (a .count) (now (a .state)) (c .before .before .before .before .before .before .before .before .before .loop .k) (c .before .before .before .before .before .before .before .before .loop-test .taken) (c .before .before .before .before .before .before .before .offset-at .ensures) (c .before .before .before .before .offset-at3 .ensures) (value-is (c .before .before) ∙ c .before .before .before .byte-at .ensures) (edge .0) (edge .1) (v .above) in
     tracing-node (s .pre .0) (c .before .before .before .before .before .before .before .before .before .loop .inv) v (c .before .before .before .before .before .before .offset-at2 .ensures) (is .0) (is .1) paid (edge .2)
 
 returns-3 : tie.Need-returns-3 Inv-loop μ-loop
@@ -61,8 +61,8 @@ follow-path-spec =
     (λ c κs. search needs)
     (λ c κs. search needs)
     (λ c κs. search needs)
+    (λ c. omega (arith, c .before .before .before .loop-test .taken, c .before .before .before .before .before .before .before .before .before .before .before .pre .1))
     (λ c κs. search needs)
-    (λ c. search needs)
     (λ c κs. search needs)
     (λ c. search needs)
     (λ c. tt)

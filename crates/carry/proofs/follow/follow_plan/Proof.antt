@@ -7,7 +7,7 @@ use denote.Ref.{now}
 use lib.ListN.{length, take, drop}
 use lib.Seq.{length-take-le}
 use Rattle.taskfile.specs.AnswerLaws.{There, there, Starts, starts}
-use Rattle.carry.specs.NumberLaws.{rows-there}
+use Rattle.carry.specs.NumberLaws.{rows-there, all-tested}
 use Rattle.carry.specs.ExpandLaws.{init-inside}
 use Rattle.carry.specs.NoteLaws.{start-below, note-in}
 use Rattle.carry.specs.FollowLaws.{followable, followed-answers}
@@ -63,7 +63,7 @@ follow-list-requires c κs =
     let numbered = c .before .before .before .before .before .before .before .before .before .before .before .before .number-steps .ensures in
     let noted = note-in f (s .pre .0) (sizes-are s) numbered (numbers w) refl (c .before .before .before .before .before .before .before .note-actions .ensures) in (
       (followable f (s .pre .0) (sizes-are s) numbered noted, init-inside f (s .pre .0) (sizes-are s) (state-is (c .before .before .before .before .before))),
-      (omega (arith, s .pre .0 .nodes-long, c .before .before .before .before .before .before .before .before .before .before .first-edge2 .given), s .pre .1),
+      s .pre .1,
     )
 
 returns : tie.Need-returns
@@ -90,7 +90,7 @@ follow-plan-spec =
     (λ c. sym (starts-long (c .before .before .before .before .before .before .before .before .before)))
     (λ c. search needs)
     (λ c. search needs)
-    (λ c κs. let s = c .before .before .before .before .before .before .before .before .before .before .before in (omega (arith, starts-long s, begins s .actions), rows-there (now (s .args .file)) (s .pre .0) (sizes-are s) (omega arith)))
+    (λ c κs. let s = c .before .before .before .before .before .before .before .before .before .before .before in (omega (arith, starts-long s, begins s .actions), (rows-there (now (s .args .file)) (s .pre .0) (sizes-are s) (omega arith), all-tested (now (s .args .file)) (s .pre .0))))
     numbers
     (λ c. sym (length-take-le (c .before .before .before .before .before .before .before .before .before .before .before .before .before .before .before .args .actions) (first-step (c .before)) (numbers (c .before))))
     (λ c. search needs)

@@ -13,7 +13,7 @@ use Rattle.facts.specs.Fields.{wordAt}
 use Rattle.taskfile.specs.WalkInPlace.{nodeCount}
 use Rattle.taskfile.specs.WalkInPlaceLaws.{weight-behind, count-behind, cost-is}
 use Rattle.taskfile.specs.MoveInPlaceLaws.{performs, performs-not}
-use Rattle.taskfile.specs.PartsInPlace.{nodesIn}
+use Rattle.taskfile.specs.PartsInPlace.{nodesIn, Tested}
 use Rattle.compile.specs.ExtentLaws.{count-in}
 use Rattle.carry.specs.InPlace.{entriesOf, Writable}
 use Rattle.carry.specs.ActionLaws.{wrote-nothing}
@@ -34,7 +34,8 @@ put-path-requires c κs =
     let s = c .before .before .before .before .before .before .before .before .before .before .before .before .before .before .before in
     let a = s .args in (
       omega (arith, count-is (c .before .before), s .pre .0 .few),
-      subst (λ (n : ℕ). Writable (now (a .sizes)) (nodesIn (now (a .file)) (now (a .sizes)) (now (a .nodes)) 0 n) (now (a .first-edge)) (a .first) (a .next) (now (a .state)) (length (now (a .out)))) (sym (count-is (c .before .before))) (s .pre .1),
+      subst (λ (n : ℕ). Writable (now (a .sizes)) (nodesIn (now (a .file)) (now (a .sizes)) (now (a .nodes)) 0 n) (now (a .first-edge)) (a .first) (a .next) (now (a .state)) (length (now (a .out)))) (sym (count-is (c .before .before))) (s .pre .1 .0),
+      subst (Tested (now (a .file)) (now (a .nodes))) (sym (count-is (c .before .before))) (s .pre .1 .1),
     )
 
 returns : tie.Need-returns

@@ -21,31 +21,31 @@ long : (c : tie.Start Inv-loop μ-loop) → length (set (now (c .args .out)) 0 (
 long c = length-set (now (c .args .out)) 0 (c .args .first)
 
 -- the node of this turn, and the state's value there
-here : (c : tie.After-edge-for Inv-loop μ-loop) → let a = c .before .before .before .before .before .before .before .before .before .before .before .before .before .args in Visited (now (a .file)) (now (a .sizes)) (now (a .nodes)) (a .count) (now (a .state)) (c .before .before .before .before .before .before .loop .k) (c .before .before .before .before .offset-at .result) (c .before .before .byte-at2 .result) (c .edge-for .result .target)
+here : (c : tie.After-edge-for Inv-loop μ-loop) → let a = c .before .before .before .before .before .before .before .before .before .before .before .before .before .args in Visited (now (a .file)) (now (a .sizes)) (now (a .nodes)) (a .count) (now (a .state)) (c .before .before .before .before .before .before .loop .k) (c .before .before .before .before .offset-at .result) (c .before .before .byte-at .result) (c .edge-for .result .target)
 here c =
     let s = c .before .before .before .before .before .before .before .before .before .before .before .before .before in
     let a = s .args in
-    visited (now (a .file)) (now (a .sizes)) (now (a .nodes)) (a .count) (s .pre .1) (c .before .before .before .before .before .before .loop .inv .low) (c .before .before .before .before .before .loop-test .taken) (c .before .before .before .before .offset-at .ensures) (c .before .before .before .byte-at .ensures) (c .before .before .byte-at2 .ensures) (c .edge-for .ensures .0)
+    visited (now (a .file)) (now (a .sizes)) (now (a .nodes)) (a .count) (s .pre .1) (s .pre .2) (c .before .before .before .before .before .before .loop .inv .low) (c .before .before .before .before .before .loop-test .taken) (c .before .before .before .before .offset-at .ensures) (c .before .before .before .offset-at2 .ensures) (c .before .before .byte-at .ensures) (c .edge-for .ensures .0)
 
 -- the same before its edge is read
-there : (c : tie.After-offset-at2 Inv-loop μ-loop) → let a = c .before .before .before .before .before .before .before .before .before .before .before .before .args in Visited (now (a .file)) (now (a .sizes)) (now (a .nodes)) (a .count) (now (a .state)) (c .before .before .before .before .before .loop .k) (c .before .before .before .offset-at .result) (c .before .byte-at2 .result) (getD (now (a .file)) (c .before .before .before .offset-at .result + (1 + 3 * c .before .byte-at2 .result)) 0)
+there : (c : tie.After-offset-at3 Inv-loop μ-loop) → let a = c .before .before .before .before .before .before .before .before .before .before .before .before .args in Visited (now (a .file)) (now (a .sizes)) (now (a .nodes)) (a .count) (now (a .state)) (c .before .before .before .before .before .loop .k) (c .before .before .before .offset-at .result) (c .before .byte-at .result) (getD (now (a .file)) (c .before .before .before .offset-at .result + (1 + 3 * c .before .byte-at .result)) 0)
 there c =
     let s = c .before .before .before .before .before .before .before .before .before .before .before .before in
     let a = s .args in
-    visited (now (a .file)) (now (a .sizes)) (now (a .nodes)) (a .count) (s .pre .1) (c .before .before .before .before .before .loop .inv .low) (c .before .before .before .before .loop-test .taken) (c .before .before .before .offset-at .ensures) (c .before .before .byte-at .ensures) (c .before .byte-at2 .ensures) refl
+    visited (now (a .file)) (now (a .sizes)) (now (a .nodes)) (a .count) (s .pre .1) (s .pre .2) (c .before .before .before .before .before .loop .inv .low) (c .before .before .before .before .loop-test .taken) (c .before .before .before .offset-at .ensures) (c .before .before .offset-at2 .ensures) (c .before .byte-at .ensures) refl
 
 -- its edge has a number below that of the end, and there is room for it
-small : (c : tie.After-offset-at2 Inv-loop μ-loop) → c .offset-at2 .result + c .before .byte-at2 .result < 576
+small : (c : tie.After-offset-at3 Inv-loop μ-loop) → c .offset-at3 .result + c .before .byte-at .result < 576
 small c =
     let s = c .before .before .before .before .before .before .before .before .before .before .before .before in
     let a = s .args in
-    omega (arith, passing-small (now (a .file)) (now (a .sizes)) (now (a .nodes)) (a .count) (s .pre .1) (c .before .before .before .before .before .loop .inv) (long s) (there c) (c .offset-at2 .ensures), s .pre .1 .few)
+    omega (arith, passing-small (now (a .file)) (now (a .sizes)) (now (a .nodes)) (a .count) (s .pre .1) (c .before .before .before .before .before .loop .inv) (long s) (there c) (c .offset-at3 .ensures), s .pre .1 .few)
 
-room : (c : tie.After-offset-at2 Inv-loop μ-loop) → c .before .before .before .before .before .loop .written < length (c .before .before .before .before .before .loop .out)
+room : (c : tie.After-offset-at3 Inv-loop μ-loop) → c .before .before .before .before .before .loop .written < length (c .before .before .before .before .before .loop .out)
 room c =
     let s = c .before .before .before .before .before .before .before .before .before .before .before .before in
     let a = s .args in
-    passing-room (now (a .file)) (now (a .sizes)) (now (a .nodes)) (a .count) (s .pre .1) (c .before .before .before .before .before .loop .inv) (long s) (there c) (c .offset-at2 .ensures)
+    passing-room (now (a .file)) (now (a .sizes)) (now (a .nodes)) (a .count) (s .pre .1) (c .before .before .before .before .before .loop .inv) (long s) (there c) (c .offset-at3 .ensures)
 
 -- there is room for the end
 end-room : (c : tie.After-loop Inv-loop μ-loop) → c .before .loop .written < length (c .before .loop .out)
@@ -58,7 +58,7 @@ end-room c =
 same : (c : tie.After-loop Inv-loop μ-loop) → length (c .before .loop .out) ≡ length (now (c .before .before .before .before .before .before .before .before .args .out))
 same c = let s = c .before .before .before .before .before .before .before .before in going-same (c .before .loop .inv .going) (omega (arith, s .pre .1 .fits, long s)) ∙ long s
 
-same-now : (c : tie.After-offset-at2 Inv-loop μ-loop) → length (c .before .before .before .before .before .loop .out) ≡ length (now (c .before .before .before .before .before .before .before .before .before .before .before .before .args .out))
+same-now : (c : tie.After-offset-at3 Inv-loop μ-loop) → length (c .before .before .before .before .before .loop .out) ≡ length (now (c .before .before .before .before .before .before .before .before .before .before .before .before .args .out))
 same-now c = let s = c .before .before .before .before .before .before .before .before .before .before .before .before in going-same (c .before .before .before .before .before .loop .inv .going) (omega (arith, s .pre .1 .fits, long s)) ∙ long s
 
 loop-again : tie.Need-loop-again Inv-loop μ-loop
@@ -67,8 +67,8 @@ loop-again c =
     let a = s .args in
     let e = c .before .edge-for .ensures in
     let v = here (c .before) in
-    let paid = edge-paid (now (a .file)) (now (a .nodes)) (a .count) (now (a .state)) (c .before .before .before .before .before .before .before .loop .k) (c .before .before .before .before .before .before .loop-test .taken) (c .before .before .before .before .before .offset-at .ensures) (c .before .before .before .before .byte-at .ensures) (c .before .before .before .byte-at2 .ensures) (e .0) (e .1) (v .above) in
-    passing-next (now (a .file)) (now (a .sizes)) (now (a .nodes)) (a .count) (s .pre .1) (c .before .before .before .before .before .before .before .loop .inv) (long s) v (c .before .before .offset-at2 .ensures) paid (e .2)
+    let paid = edge-paid (now (a .file)) (now (a .nodes)) (a .count) (now (a .state)) (c .before .before .before .before .before .before .before .loop .k) (c .before .before .before .before .before .before .loop-test .taken) (c .before .before .before .before .before .offset-at .ensures) (c .before .before .before .before .offset-at2 .ensures) (c .before .before .before .byte-at .ensures) (e .0) (e .1) (v .above) in
+    passing-next (now (a .file)) (now (a .sizes)) (now (a .nodes)) (a .count) (s .pre .1) (c .before .before .before .before .before .before .before .loop .inv) (long s) v (c .before .before .offset-at3 .ensures) paid (e .2)
 
 returns : tie.Need-returns Inv-loop μ-loop
 returns c =
@@ -90,10 +90,9 @@ put-path-spec =
     (λ c. let s = c .before .before .before .before .before .before in let a = s .args in passing-start (now (a .file)) (now (a .sizes)) (now (a .nodes)) (a .count) (s .pre .1) (now (a .out)) refl)
     (λ c. omega (arith, c .before .loop .inv .low))
     (λ c κs. search needs)
+    (λ c. omega (arith, c .before .loop-test .taken, c .before .before .before .before .before .before .before .before .before .pre .0))
     (λ c κs. search needs)
-    (λ c. search needs)
     (λ c κs. search needs)
-    (λ c. omega (arith, c .before .before .before .before .loop .inv .low))
     (λ c κs. search needs)
     (λ c. search needs)
     (λ c. omega (arith, small c))

@@ -1,6 +1,6 @@
 -- `carry::plan::put_list` meets its contract: what is left of the list answers, from the state here, what the whole answers, and what is written and what is left are together the entries of
 -- all actions. Assumes nothing.
-use Prim.Native.Nat.{ℕ, _+_, _*_, _-_, _≤_, min}
+use Prim.Native.Nat.{ℕ, _+_, _*_, _-_, _≤_}
 use mathlib.Core.Path.{_≡_, refl, sym, ap, subst, _∙_}
 use mathlib.Core.List.{List}
 use native.Mathlib.Omega.{arith}
@@ -56,42 +56,41 @@ abbrev lent : List ℕ → ℕ → List ℕ
 lent row k = take (length row - k) (drop k row)
 
 -- the action of this turn
-entry : (c : tie.After-offset-at3 Inv-loop μ-loop) → let x = c .before .before .before .before .before .before .before .before .before .before .before .before .before .before .before .before .before .before .before .before .before .before .args in let l = c .before .before .before .before .before .before .before .before .before .before .loop in let first = c .before .before .before .before .before .before .offset-within .result in
+entry : (c : tie.After-offset-at3 Inv-loop μ-loop) → let x = c .before .before .before .before .before .before .before .before .before .before .before .before .before .before .before .before .before .before .before .before .before .before .before .args in let l = c .before .before .before .before .before .before .before .before .before .before .before .loop in let first = c .before .before .before .before .before .before .before .offset-within .result in
     Entry (now (x .file)) (now (x .sizes)) (now (x .action-at)) (now (x .first-node)) (now (x .node-at)) (now (x .list)) (l .state) (l .i) (getD (now (x .action-at)) (getD (now (x .list)) (l .i) 0) 0)
-    (lent (now (x .node-at)) first) (lent (now (x .first-edge)) first) (c .before .offset-at2 .result) (c .offset-at3 .result)
+    (lent (now (x .node-at)) first) (lent (now (x .first-edge)) (c .before .before .before .before .before .before .offset-within2 .result)) (c .before .offset-at2 .result) (c .offset-at3 .result)
 entry c =
-    let s = c .before .before .before .before .before .before .before .before .before .before .before .before .before .before .before .before .before .before .before .before .before .before in
+    let s = c .before .before .before .before .before .before .before .before .before .before .before .before .before .before .before .before .before .before .before .before .before .before .before in
     let x = s .args in
-    let l = c .before .before .before .before .before .before .before .before .before .before .loop in
+    let l = c .before .before .before .before .before .before .before .before .before .before .before .loop in
     let number = getD (now (x .list)) (l .i) 0 in
     let first = getD (now (x .first-node)) number 0 in
-    let at = c .before .before .before .before .before .before .offset-within .ensures in
-    entry-there (s .pre .0 .0) (l .state) (c .before .before .before .before .before .before .before .before .before .loop-test .taken) (c .before .before .before .before .before .before .before .if1 .left) refl (own-nodes (now (x .node-at)) first at) (own-nodes (now (x .first-edge)) first (at ∙ ap (min first) (sym (s .pre .0 .0 .rows)))) (c .before .offset-at2 .ensures) (c .offset-at3 .ensures)
+    entry-there (s .pre .0 .0) (l .state) (c .before .before .before .before .before .before .before .before .before .before .loop-test .taken) (c .before .before .before .before .before .before .before .before .if1 .left) refl (own-nodes (now (x .node-at)) first (c .before .before .before .before .before .before .before .offset-within .ensures)) (own-nodes (now (x .first-edge)) first (c .before .before .before .before .before .before .offset-within2 .ensures)) (c .before .offset-at2 .ensures) (c .offset-at3 .ensures)
 
 -- where its incoming weight stands
-weighed : (c : tie.After-offset-at3 Inv-loop μ-loop) → let x = c .before .before .before .before .before .before .before .before .before .before .before .before .before .before .before .before .before .before .before .before .before .before .args in Weighs (now (x .file)) (getD (now (x .action-at)) (getD (now (x .list)) (c .before .before .before .before .before .before .before .before .before .before .loop .i) 0) 0) (c .before .before .before .before .offset-at .result)
-weighed c = let s = c .before .before .before .before .before .before .before .before .before .before .before .before .before .before .before .before .before .before .before .before .before .before in let x = s .args in subst (Weighs (now (x .file)) (getD (now (x .action-at)) (getD (now (x .list)) (c .before .before .before .before .before .before .before .before .before .before .loop .i) 0) 0)) (sym (c .before .before .before .before .offset-at .ensures)) (s .pre .0 .0 .weighs (getD (now (x .list)) (c .before .before .before .before .before .before .before .before .before .before .loop .i) 0) (c .before .before .before .before .before .before .before .if1 .left))
+weighed : (c : tie.After-offset-at3 Inv-loop μ-loop) → let x = c .before .before .before .before .before .before .before .before .before .before .before .before .before .before .before .before .before .before .before .before .before .before .before .args in Weighs (now (x .file)) (getD (now (x .action-at)) (getD (now (x .list)) (c .before .before .before .before .before .before .before .before .before .before .before .loop .i) 0) 0) (c .before .before .before .before .offset-at .result)
+weighed c = let s = c .before .before .before .before .before .before .before .before .before .before .before .before .before .before .before .before .before .before .before .before .before .before .before in let x = s .args in subst (Weighs (now (x .file)) (getD (now (x .action-at)) (getD (now (x .list)) (c .before .before .before .before .before .before .before .before .before .before .before .loop .i) 0) 0)) (sym (c .before .before .before .before .offset-at .ensures)) (s .pre .0 .0 .weighs (getD (now (x .list)) (c .before .before .before .before .before .before .before .before .before .before .before .loop .i) 0) (c .before .before .before .before .before .before .before .before .if1 .left))
 
 put-action-requires : tie.Need-put-action-requires Inv-loop μ-loop
 put-action-requires c κs =
     let e = entry (c .before .before) in
-    let inv = c .before .before .before .before .before .before .before .before .before .before .before .before .loop .inv in
-    (weighed (c .before .before), entry-writable e (inv .1) (going-room (inv .4) (fits (c .before .before .before .before .before .before .before .before .before .before .before .before .before .before .before .before .before .before .before .before .before .before .before .before)) (e .cut)))
+    let inv = c .before .before .before .before .before .before .before .before .before .before .before .before .before .loop .inv in
+    (weighed (c .before .before), (entry-writable e (inv .1) (going-room (inv .4) (fits (c .before .before .before .before .before .before .before .before .before .before .before .before .before .before .before .before .before .before .before .before .before .before .before .before .before)) (e .cut)), e .tested))
 
 -- the state after it, and what it did
 abbrev after : tie.After-put-action Inv-loop μ-loop → List ℕ
 after c = c .put-action .last .1 .1 .1 .1 .1 .1 .1 .1 .0
 
-did : (c : tie.After-put-action Inv-loop μ-loop) → let x = c .before .before .before .before .before .before .before .before .before .before .before .before .before .before .before .before .before .before .before .before .before .before .before .before .before .args in let l = c .before .before .before .before .before .before .before .before .before .before .before .before .before .loop in
+did : (c : tie.After-put-action Inv-loop μ-loop) → let x = c .before .before .before .before .before .before .before .before .before .before .before .before .before .before .before .before .before .before .before .before .before .before .before .before .before .before .args in let l = c .before .before .before .before .before .before .before .before .before .before .before .before .before .before .loop in
     appliedMove (c .put-action .result .answer) (after c) ≡ moveAt (now (x .file)) (now (x .action-at)) (now (x .first-node)) (now (x .node-at)) (getD (now (x .list)) (l .i) 0) (l .state)
 did c =
-    let x = c .before .before .before .before .before .before .before .before .before .before .before .before .before .before .before .before .before .before .before .before .before .before .before .before .before .args in
-    let l = c .before .before .before .before .before .before .before .before .before .before .before .before .before .loop in
-    moves (now (x .file)) (now (x .action-at)) (now (x .first-node)) (now (x .node-at)) (getD (now (x .list)) (l .i) 0) (l .state) (λ w. w .cost) (c .before .before .before .before .before .before .before .before .before .offset-within .ensures) (c .put-action .ensures .0)
+    let x = c .before .before .before .before .before .before .before .before .before .before .before .before .before .before .before .before .before .before .before .before .before .before .before .before .before .before .args in
+    let l = c .before .before .before .before .before .before .before .before .before .before .before .before .before .before .loop in
+    moves (now (x .file)) (now (x .action-at)) (now (x .first-node)) (now (x .node-at)) (getD (now (x .list)) (l .i) 0) (l .state) (λ w. w .cost) (c .before .before .before .before .before .before .before .before .before .before .offset-within .ensures) (c .put-action .ensures .0)
 
 -- it applied
-applied : (c : tie.After-answer Inv-loop μ-loop) → let x = c .before .before .before .before .before .before .before .before .before .before .before .before .before .before .before .before .before .before .before .before .before .before .before .before .before .before .before .before .before .before .before .args in let l = c .before .before .before .before .before .before .before .before .before .before .before .before .before .before .before .before .before .before .before .loop in
-    went (after (c .before .before .before .before .before .before)) (c .answer .given .0 .0) ≡ performAt (now (x .file)) (getD (now (x .action-at)) (getD (now (x .list)) (l .i) 0) 0) (lent (now (x .node-at)) (c .before .before .before .before .before .before .before .before .before .before .before .before .before .before .before .offset-within .result)) (l .state)
+applied : (c : tie.After-answer Inv-loop μ-loop) → let x = c .before .before .before .before .before .before .before .before .before .before .before .before .before .before .before .before .before .before .before .before .before .before .before .before .before .before .before .before .before .before .before .before .args in let l = c .before .before .before .before .before .before .before .before .before .before .before .before .before .before .before .before .before .before .before .before .loop in
+    went (after (c .before .before .before .before .before .before)) (c .answer .given .0 .0) ≡ performAt (now (x .file)) (getD (now (x .action-at)) (getD (now (x .list)) (l .i) 0) 0) (lent (now (x .node-at)) (c .before .before .before .before .before .before .before .before .before .before .before .before .before .before .before .before .offset-within .result)) (l .state)
 applied c = ap (λ (r : Applied). appliedMove r (after (c .before .before .before .before .before .before))) (sym (c .answer .given .1)) ∙ c .before .before .before .before .before .before .put-action .ensures .0
 
 -- it costs little
@@ -99,15 +98,15 @@ small : (c : tie.After-answer Inv-loop μ-loop) → c .answer .given .0 .0 ≤ m
 small c = subst (CostMost maxWalk) (c .answer .given .1) (c .before .before .before .before .before .before .put-action .ensures .1 .0)
 
 -- its entries are written
-going : (c : tie.After-answer Inv-loop μ-loop) → let s = c .before .before .before .before .before .before .before .before .before .before .before .before .before .before .before .before .before .before .before .before .before .before .before .before .before .before .before .before .before .before .before in let x = s .args in let l = c .before .before .before .before .before .before .before .before .before .before .before .before .before .before .before .before .before .before .before .loop in
+going : (c : tie.After-answer Inv-loop μ-loop) → let s = c .before .before .before .before .before .before .before .before .before .before .before .before .before .before .before .before .before .before .before .before .before .before .before .before .before .before .before .before .before .before .before .before in let x = s .args in let l = c .before .before .before .before .before .before .before .before .before .before .before .before .before .before .before .before .before .before .before .before .loop in
     Going (expandFrom (actions s) (now (x .list)) (now (x .state))) (expandFrom (actions s) (drop (l .i + 1) (now (x .list))) (after (c .before .before .before .before .before .before))) (now (x .out))
     (putMid (l .written) (length (l .out) - l .written) (l .out) (c .before .before .before .before .before .before .put-action .last .1 .1 .1 .1 .1 .1 .1 .1 .1 .0)) (l .written + c .before .before .before .before .before .before .put-action .result .written)
 going c =
-    let s = c .before .before .before .before .before .before .before .before .before .before .before .before .before .before .before .before .before .before .before .before .before .before .before .before .before .before .before .before .before .before .before in
+    let s = c .before .before .before .before .before .before .before .before .before .before .before .before .before .before .before .before .before .before .before .before .before .before .before .before .before .before .before .before .before .before .before .before in
     let x = s .args in
-    let l = c .before .before .before .before .before .before .before .before .before .before .before .before .before .before .before .before .before .before .before .loop in
+    let l = c .before .before .before .before .before .before .before .before .before .before .before .before .before .before .before .before .before .before .before .before .loop in
     let e = entry (c .before .before .before .before .before .before .before .before .before) in
-    let entries = actionList (c .before .before .before .before .before .before .before .before .before .before .offset-at2 .result) (actionIn (now (x .file)) (now (x .sizes)) (getD (now (x .action-at)) (getD (now (x .list)) (l .i) 0) 0) (lent (now (x .node-at)) (c .before .before .before .before .before .before .before .before .before .before .before .before .before .before .before .offset-within .result))) (l .state) in
+    let entries = actionList (c .before .before .before .before .before .before .before .before .before .before .offset-at2 .result) (actionIn (now (x .file)) (now (x .sizes)) (getD (now (x .action-at)) (getD (now (x .list)) (l .i) 0) 0) (lent (now (x .node-at)) (c .before .before .before .before .before .before .before .before .before .before .before .before .before .before .before .before .offset-within .result))) (l .state) in
     let wrote = subst (λ (r : Applied). Wrote (putEntries r entries) (take (length (l .out) - l .written) (drop (l .written) (l .out))) (c .before .before .before .before .before .before .put-action .last .1 .1 .1 .1 .1 .1 .1 .1 .1 .0) (c .before .before .before .before .before .before .put-action .result .written)) (c .answer .given .1) (c .before .before .before .before .before .before .put-action .ensures .1 .1) in
     entry-next e (applied c) (l .inv .4) (fits s) wrote
 
@@ -115,20 +114,20 @@ returns-2 : tie.Need-returns-2 Inv-loop μ-loop
 returns-2 c =
     let act = c .before .before .before .before .before .before in
     let not = sym (c .enum-told .given .1) in
-    (running-blocked (c .before .before .before .before .before .before .before .before .before .before .before .before .before .before .before .before .before .before .before .loop .inv .3) (c .before .before .before .before .before .before .before .before .before .before .before .before .before .before .before .before .before .before .loop-test .taken) (c .before .before .before .before .before .before .before .before .before .before .before .before .before .before .before .before .if1 .left) (ap (λ (r : Applied). appliedMove r (after act)) not ∙ did act), wrote-not)
+    (running-blocked (c .before .before .before .before .before .before .before .before .before .before .before .before .before .before .before .before .before .before .before .before .loop .inv .3) (c .before .before .before .before .before .before .before .before .before .before .before .before .before .before .before .before .before .before .before .loop-test .taken) (c .before .before .before .before .before .before .before .before .before .before .before .before .before .before .before .before .before .if1 .left) (ap (λ (r : Applied). appliedMove r (after act)) not ∙ did act), wrote-not)
 
 add-written : tie.Need-add-written Inv-loop μ-loop
-add-written c = omega (arith, going-few (going (c .before .before)), few (c .before .before .before .before .before .before .before .before .before .before .before .before .before .before .before .before .before .before .before .before .before .before .before .before .before .before .before .before .before .before .before .before .before))
+add-written c = omega (arith, going-few (going (c .before .before)), few (c .before .before .before .before .before .before .before .before .before .before .before .before .before .before .before .before .before .before .before .before .before .before .before .before .before .before .before .before .before .before .before .before .before .before))
 
 loop-again : tie.Need-loop-again Inv-loop μ-loop
 loop-again c =
     let t = c .before .before in
-    let l = c .before .before .before .before .before .before .before .before .before .before .before .before .before .before .before .before .before .before .before .before .before .loop in
+    let l = c .before .before .before .before .before .before .before .before .before .before .before .before .before .before .before .before .before .before .before .before .before .before .loop in
     let moved = ap (λ (r : Applied). appliedMove r (after (t .before .before .before .before .before .before))) (sym (t .answer .given .1)) ∙ did (t .before .before .before .before .before .before) in (
-      omega (arith, c .before .before .before .before .before .before .before .before .before .before .before .before .before .before .before .before .before .before .before .before .loop-test .taken),
+      omega (arith, c .before .before .before .before .before .before .before .before .before .before .before .before .before .before .before .before .before .before .before .before .before .loop-test .taken),
       entry-inside (entry (t .before .before .before .before .before .before .before .before .before)) (applied t) (l .inv .1),
       omega (arith, small t, l .inv .2),
-      running-next (l .inv .3) (c .before .before .before .before .before .before .before .before .before .before .before .before .before .before .before .before .before .before .before .before .loop-test .taken) (c .before .before .before .before .before .before .before .before .before .before .before .before .before .before .before .before .before .before .if1 .left) moved,
+      running-next (l .inv .3) (c .before .before .before .before .before .before .before .before .before .before .before .before .before .before .before .before .before .before .before .before .before .loop-test .taken) (c .before .before .before .before .before .before .before .before .before .before .before .before .before .before .before .before .before .before .before .if1 .left) moved,
       going t,
     )
 
@@ -154,34 +153,35 @@ put-list-spec =
     (λ c. going-same (c .before .before .before .loop .inv .4) (fits (c .before .before .before .before .before .before .before .before .before .before .before .before .before .before .before)))
     (λ c. (running-missing (c .before .before .before .loop .inv .3) (c .before .before .loop-test .taken) (c .if1 .taken), wrote-not))
     (λ c κs. search needs)
+    (λ c κs. search needs)
     (λ c. search needs)
     (λ c. search needs)
     (λ c κs. search needs)
     (λ c. search needs)
-    (λ c. omega (arith, c .before .before .offset-within .ensures))
-    (λ c. omega (arith, c .before .before .offset-within .ensures))
+    (λ c. omega (arith, c .before .before .before .offset-within .ensures))
+    (λ c. omega (arith, c .before .before .before .offset-within .ensures))
     (λ c. search needs)
     (λ c. search needs)
-    (λ c. omega (arith, c .before .before .before .offset-within .ensures, c .before .before .before .before .before .before .before .before .before .before .before .before .before .before .before .before .before .before .before .pre .0 .0 .rows))
-    (λ c. omega (arith, c .before .before .before .offset-within .ensures, c .before .before .before .before .before .before .before .before .before .before .before .before .before .before .before .before .before .before .before .pre .0 .0 .rows))
-    (λ c. search needs)
-    (λ c κs. search needs)
+    (λ c. omega (arith, c .before .before .before .offset-within2 .ensures))
+    (λ c. omega (arith, c .before .before .before .offset-within2 .ensures))
     (λ c. search needs)
     (λ c κs. search needs)
-    (λ c. omega (arith, going-few (c .before .before .before .before .before .before .before .before .before .before .before .loop .inv .4), few (c .before .before .before .before .before .before .before .before .before .before .before .before .before .before .before .before .before .before .before .before .before .before .before)))
-    (λ c. going-inside (c .before .before .before .before .before .before .before .before .before .before .before .loop .inv .4) (fits (c .before .before .before .before .before .before .before .before .before .before .before .before .before .before .before .before .before .before .before .before .before .before .before)))
-    (λ c. going-inside (c .before .before .before .before .before .before .before .before .before .before .before .loop .inv .4) (fits (c .before .before .before .before .before .before .before .before .before .before .before .before .before .before .before .before .before .before .before .before .before .before .before)))
+    (λ c. search needs)
+    (λ c κs. search needs)
+    (λ c. omega (arith, going-few (c .before .before .before .before .before .before .before .before .before .before .before .before .loop .inv .4), few (c .before .before .before .before .before .before .before .before .before .before .before .before .before .before .before .before .before .before .before .before .before .before .before .before)))
+    (λ c. going-inside (c .before .before .before .before .before .before .before .before .before .before .before .before .loop .inv .4) (fits (c .before .before .before .before .before .before .before .before .before .before .before .before .before .before .before .before .before .before .before .before .before .before .before .before)))
+    (λ c. going-inside (c .before .before .before .before .before .before .before .before .before .before .before .before .loop .inv .4) (fits (c .before .before .before .before .before .before .before .before .before .before .before .before .before .before .before .before .before .before .before .before .before .before .before .before)))
     (λ c. search needs)
     put-action-requires
     (λ c. search needs)
     (λ c. search needs)
-    (λ c. c .before .before .before .before .before .state .given ∙ state-long (c .before .before .before .before .before .before .before .before .before .before .before .before .before .before .before .before .before .before .before .before .before .before .before .before .before .before .before .before .before .before .before) (c .before .before .before .before .before .before .before .before .before .before .before .before .before .before .before .before .before .before .before .loop .state) (c .before .before .before .before .before .before .before .before .before .before .before .before .before .before .before .before .before .before .before .loop .inv .1))
-    (λ c. c .before .before .before .out .given .1 ∙ going-same (c .before .before .before .before .before .before .before .before .before .before .before .before .before .before .before .before .before .before .before .loop .inv .4) (fits (c .before .before .before .before .before .before .before .before .before .before .before .before .before .before .before .before .before .before .before .before .before .before .before .before .before .before .before .before .before .before .before)))
+    (λ c. c .before .before .before .before .before .state .given ∙ state-long (c .before .before .before .before .before .before .before .before .before .before .before .before .before .before .before .before .before .before .before .before .before .before .before .before .before .before .before .before .before .before .before .before) (c .before .before .before .before .before .before .before .before .before .before .before .before .before .before .before .before .before .before .before .before .loop .state) (c .before .before .before .before .before .before .before .before .before .before .before .before .before .before .before .before .before .before .before .before .loop .inv .1))
+    (λ c. c .before .before .before .out .given .1 ∙ going-same (c .before .before .before .before .before .before .before .before .before .before .before .before .before .before .before .before .before .before .before .before .loop .inv .4) (fits (c .before .before .before .before .before .before .before .before .before .before .before .before .before .before .before .before .before .before .before .before .before .before .before .before .before .before .before .before .before .before .before .before)))
     returns-2
-    (λ c. omega (arith, small (c .before), c .before .before .before .before .before .before .before .before .before .before .before .before .before .before .before .before .before .before .before .before .loop .inv .2, c .before .before .before .before .before .before .before .before .before .before .before .before .before .before .before .before .before .before .before .loop-test .taken, c .before .before .before .before .before .before .before .before .before .before .before .before .before .before .before .before .before .before .before .before .before .before .before .before .before .before .before .before .before .before .before .before .pre .1 .0))
+    (λ c. omega (arith, small (c .before), c .before .before .before .before .before .before .before .before .before .before .before .before .before .before .before .before .before .before .before .before .before .loop .inv .2, c .before .before .before .before .before .before .before .before .before .before .before .before .before .before .before .before .before .before .before .before .loop-test .taken, c .before .before .before .before .before .before .before .before .before .before .before .before .before .before .before .before .before .before .before .before .before .before .before .before .before .before .before .before .before .before .before .before .before .pre .1 .0))
     add-written
-    (λ c. omega (arith, c .before .before .before .before .before .before .before .before .before .before .before .before .before .before .before .before .before .before .before .before .loop-test .taken, c .before .before .before .before .before .before .before .before .before .before .before .before .before .before .before .before .before .before .before .before .before .before .before .before .before .before .before .before .before .before .before .before .before .pre .1 .0))
-    (λ c. omega (arith, c .before .before .before .before .before .before .before .before .before .before .before .before .before .before .before .before .before .before .before .before .loop-test .taken))
+    (λ c. omega (arith, c .before .before .before .before .before .before .before .before .before .before .before .before .before .before .before .before .before .before .before .before .before .loop-test .taken, c .before .before .before .before .before .before .before .before .before .before .before .before .before .before .before .before .before .before .before .before .before .before .before .before .before .before .before .before .before .before .before .before .before .before .pre .1 .0))
+    (λ c. omega (arith, c .before .before .before .before .before .before .before .before .before .before .before .before .before .before .before .before .before .before .before .before .before .loop-test .taken))
     loop-again
     (λ c κs. search needs)
     (λ c. state-long (c .before .before .before .before .before .before .before .before .before .before .before .before .before .before .before .before) (c .before .before .before .before .loop .state) (c .before .before .before .before .loop .inv .1))

@@ -13,7 +13,7 @@ use Rattle.taskfile.specs.TaskFile.{runTask}
 use Rattle.taskfile.specs.WalkInPlace.{moveAt, runList}
 use Rattle.taskfile.specs.AnswerLaws.{There, there, Starts, starts, run-is}
 use Rattle.taskfile.specs.PartsInPlaceLaws.{incoming-noted}
-use Rattle.carry.specs.NumberLaws.{rows-there}
+use Rattle.carry.specs.NumberLaws.{rows-there, all-tested}
 use Rattle.carry.specs.ExpandLaws.{init-inside, prepared, entries-are}
 use Rattle.taskfile.specs.TaskIndexLaws.{row-long}
 use borrow.Author.Needs.{needs}
@@ -49,7 +49,7 @@ put-list-requires : tie.Need-put-list-requires
 put-list-requires c κs =
     let s = c .before .before .before .before .before .before .before .before .before .before .before .before .before .before .before .before .before .before .before .before in
     let f = now (s .args .file) in
-    ((prepared f (s .pre .0) (sizes-are s) (incoming-noted f (s .pre .0) (begins s .actions)) (c .before .before .before .before .before .first-edge2 .given) (c .before .before .before .before .before .before .before .number-steps .ensures), init-inside f (s .pre .0) (sizes-are s) (state-is (c .before .before .before .before))), (s .pre .1, s .pre .2))
+    ((prepared f (s .pre .0) (sizes-are s) (incoming-noted f (s .pre .0) (begins s .actions)) (c .before .before .before .before .before .before .before .number-steps .ensures), init-inside f (s .pre .0) (sizes-are s) (state-is (c .before .before .before .before))), (s .pre .1, s .pre .2))
 
 -- what the run of the list answers
 ran : (c : tie.After-put-list) → let a = c .before .before .before .before .before .before .before .before .before .before .before .before .before .before .before .before .before .before .before .before .before .args in ranAnswer (c .put-list .result .answer) ≡ runTask (now (a .file)) (now (a .list))
@@ -59,7 +59,7 @@ ran c =
     let list = now (s .args .list) in
     let t = s .args in
     let begins = take (t .actions) (take 96 (now (t .row))) in
-    c .put-list .ensures .0 ∙ ap (λ (state : List ℕ). runList (length begins) (moveAt f begins (take 32 (drop 96 (now (t .row)))) (take 64 (drop 128 (now (t .row))))) (partialAt f (1 + 2 * t .variables)) list state) (c .before .before .before .before .before .initial .ensures .0) ∙ sym (run-is f (s .pre .0) list)
+    c .put-list .ensures .0 ∙ ap (λ (state : List ℕ). runList (length begins) (moveAt f begins (take 32 (drop 96 (now (t .row)))) (take 128 (drop 128 (now (t .row))))) (partialAt f (1 + 2 * t .variables)) list state) (c .before .before .before .before .before .initial .ensures .0) ∙ sym (run-is f (s .pre .0) list)
 
 returns : tie.Need-returns
 returns c =
@@ -94,7 +94,7 @@ put-plan-spec =
     (λ c. omega (arith, c .before .before .before .before .before .before .before .before .before .pre .0 .starts-long))
     (λ c. search needs)
     (λ c. search needs)
-    (λ c κs. let s = c .before .before .before .before .before .before .before .before .before .before .before .before in (omega (arith, starts-long s, begins s .actions), rows-there (now (s .args .file)) (s .pre .0) (sizes-are s) (omega arith)))
+    (λ c κs. let s = c .before .before .before .before .before .before .before .before .before .before .before .before in (omega (arith, starts-long s, begins s .actions), (rows-there (now (s .args .file)) (s .pre .0) (sizes-are s) (omega arith), all-tested (now (s .args .file)) (s .pre .0))))
     (λ c κs. let b = begins (c .before .before .before .before .before .before .before .before .before .before .before .before .before .before .before) in (b .variables, b .fits))
     (λ c. omega (arith, begins (c .before .before .before .before .before .before .before .before .before .before .before .before .before .before .before .before) .variables))
     (λ c. omega (arith, begins (c .before .before .before .before .before .before .before .before .before .before .before .before .before .before .before .before) .variables))

@@ -6,7 +6,7 @@ use lib.ListN.{length, take, drop}
 use lib.Seq.{length-take-le}
 use denote.Ref.{now}
 use Rattle.taskfile.specs.AnswerLaws.{there, Starts, starts}
-use Rattle.carry.specs.NumberLaws.{rows-there}
+use Rattle.carry.specs.NumberLaws.{rows-there, all-tested}
 use Rattle.carry.specs.NoteLaws.{start-below, note-in}
 use Rattle.taskfile.specs.TaskIndexLaws.{row-long}
 use borrow.Author.Needs.{needs}
@@ -30,7 +30,7 @@ starts-long c = length-take-le (c .args .actions) (take 96 (now (c .args .row)))
 number-steps-requires : tie.Need-number-steps-requires
 number-steps-requires c κs =
     let s = c .before .before .before .before .before .before .before .before .before .before in
-    (omega (arith, starts-long s, begins s .actions), rows-there (now (s .args .file)) (s .pre .0) (sizes-are s) (omega arith))
+    (omega (arith, starts-long s, begins s .actions), (rows-there (now (s .args .file)) (s .pre .0) (sizes-are s) (omega arith), all-tested (now (s .args .file)) (s .pre .0)))
 
 -- there is a number for each action
 numbers : (c : tie.After-first-edge2) → c .before .before .before .before .before .before .before .before .before .before .before .before .before .args .actions ≤ length (c .before .before .number-steps .last .1 .1 .1 .1 .1 .0)

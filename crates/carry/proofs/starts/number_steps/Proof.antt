@@ -12,7 +12,7 @@ use Rattle.taskfile.specs.PartsInPlace.{nodesIn, actionIn, actionsIn}
 use Rattle.taskfile.specs.PartsInPlaceLaws.{nodes-long}
 use Rattle.compilation.specs.Compile.{edgeCount}
 use Rattle.carry.specs.InPlace.{Edges}
-use Rattle.carry.specs.NumberLaws.{actions-long, actions-at, lent-nodes, row-long, Numbering, numbering-start, numbering-small, row-is, numbering-next, numbering-end}
+use Rattle.carry.specs.NumberLaws.{actions-long, actions-at, lent-nodes, lent-tested, row-long, Numbering, numbering-start, numbering-small, row-is, numbering-next, numbering-end}
 use borrow.Author.Needs.{needs}
 use Rattle.carry.proofs.starts.number_steps.Statement.{statement}
 use Rattle.carry.proofs.starts.number_steps.Tie as tie
@@ -44,7 +44,7 @@ lent-are c = let x = c .before .before .before .before .before .before .before .
 
 -- the row of its nodes
 row : (c : tie.After-offset-within2 Inv-loop μ-loop) → (c .offset-within2 .result ≡ getD (now (c .before .before .before .before .before .before .before .before .before .before .before .before .before .args .first-node)) (c .before .before .before .before .before .loop .a) 0) × (c .offset-within2 .result + length (action (c .before .before .before .before) .nodes) ≤ length (c .before .before .before .before .before .loop .first-edge))
-row c = row-is (c .before .before .before .before .before .loop .inv .1) (element (c .before .before .before .before)) (c .before .before .before .before .before .before .before .before .before .before .before .before .before .pre .1) (c .offset-within2 .ensures)
+row c = row-is (c .before .before .before .before .before .loop .inv .1) (element (c .before .before .before .before)) (c .before .before .before .before .before .before .before .before .before .before .before .before .before .pre .1 .0) (c .offset-within2 .ensures)
 
 count-is : (c : tie.After-node-count Inv-loop μ-loop) → length (action (c .before .before .before) .nodes) ≡ c .node-count .result
 count-is c =
@@ -55,7 +55,8 @@ count-is c =
 number-edges-requires : tie.Need-number-edges-requires Inv-loop μ-loop
 number-edges-requires c κs =
     let s = c .before .before .before .before .before .before .before .before .before .before .before .before .before .before .before in
-    (omega (arith, row (c .before .before) .1, count-is (c .before .before .before), row-long (c .before .before .before .before .before .before .before .loop .first-edge) (c .before .before .offset-within2 .result)), omega (arith, ap (total edgeCount) (lent-are (c .before .before .before)), numbering-small (c .before .before .before .before .before .before .before .loop .inv .1) (element (c .before .before .before .before .before .before)) (s .pre .1)))
+    let x = s .args in
+    (omega (arith, row (c .before .before) .1, count-is (c .before .before .before), row-long (c .before .before .before .before .before .before .before .loop .first-edge) (c .before .before .offset-within2 .result)), omega (arith, ap (total edgeCount) (lent-are (c .before .before .before)), numbering-small (c .before .before .before .before .before .before .before .loop .inv .1) (element (c .before .before .before .before .before .before)) (s .pre .1 .0)), lent-tested (now (x .file)) (now (x .node-at)) (getD (now (x .action-at)) (c .before .before .before .before .before .before .before .loop .a) 0) (getD (now (x .first-node)) (c .before .before .before .before .before .before .before .loop .a) 0) (c .before .before .before .before .before .offset-within .ensures) (c .before .before .before .node-count .ensures) (s .pre .1 .1 .own (c .before .before .before .before .before .before .before .loop .a) (c .before .before .before .before .before .before .loop-test .taken)))
 
 loop-again : tie.Need-loop-again Inv-loop μ-loop
 loop-again c =
@@ -65,7 +66,7 @@ loop-again c =
     let given = c .before .first-edge .given in
     let now-row = c .before .before .number-edges .last .1 .1 .1 .1 .1 .0 in (
       omega (arith, c .before .before .before .before .before .before .before .before .before .loop-test .taken),
-      numbering-next (l .inv .1) (element (c .before .before .before .before .before .before .before .before .before)) (s .pre .1) (length (l .first-edge) - c .before .before .before .before .before .offset-within2 .result) now-row (c .before .before .before .before .before .offset-within2 .ensures) (omega (arith, c .before .before .before .before .before .before .before .before .before .loop-test .taken, s .pre .0)) (given .1)
+      numbering-next (l .inv .1) (element (c .before .before .before .before .before .before .before .before .before)) (s .pre .1 .0) (length (l .first-edge) - c .before .before .before .before .before .offset-within2 .result) now-row (c .before .before .before .before .before .offset-within2 .ensures) (omega (arith, c .before .before .before .before .before .before .before .before .before .loop-test .taken, s .pre .0)) (given .1)
           (omega (arith, row (c .before .before .before .before .before) .1, given .0, row-long (l .first-edge) (c .before .before .before .before .before .offset-within2 .result))) (c .before .before .number-edges .ensures .0 ∙ ap (λ (nodes : List Node). 1 + l .next + total edgeCount nodes) same)
           (subst (λ (nodes : List Node). Edges nodes (1 + l .next) now-row) same (c .before .before .number-edges .ensures .1)),
     )
@@ -88,13 +89,13 @@ number-steps-spec =
     (λ c. omega (arith, c .before .before .before .offset-within .ensures))
     (λ c. omega (arith, c .before .before .before .offset-within .ensures))
     (λ c. search needs)
-    (λ c. omega (arith, numbering-small (c .before .before .before .before .before .before .loop .inv .1) (element (c .before .before .before .before .before)) (c .before .before .before .before .before .before .before .before .before .before .before .before .before .before .pre .1)))
+    (λ c. omega (arith, numbering-small (c .before .before .before .before .before .before .loop .inv .1) (element (c .before .before .before .before .before)) (c .before .before .before .before .before .before .before .before .before .before .before .before .before .before .pre .1 .0)))
     (λ c. search needs)
     (λ c. omega (arith, row (c .before) .1))
     (λ c. omega (arith, row (c .before) .1))
     (λ c. search needs)
     number-edges-requires
-    (λ c. omega (arith, c .before .before .number-edges .ensures .0, ap (total edgeCount) (lent-are (c .before .before .before .before .before .before)), numbering-small (c .before .before .before .before .before .before .before .before .before .before .loop .inv .1) (element (c .before .before .before .before .before .before .before .before .before)) (c .before .before .before .before .before .before .before .before .before .before .before .before .before .before .before .before .before .before .pre .1)))
+    (λ c. omega (arith, c .before .before .number-edges .ensures .0, ap (total edgeCount) (lent-are (c .before .before .before .before .before .before)), numbering-small (c .before .before .before .before .before .before .before .before .before .before .loop .inv .1) (element (c .before .before .before .before .before .before .before .before .before)) (c .before .before .before .before .before .before .before .before .before .before .before .before .before .before .before .before .before .before .pre .1 .0)))
     (λ c. omega (arith, c .before .before .before .before .before .before .before .before .before .loop-test .taken))
     (λ c. omega (arith, c .before .before .before .before .before .before .before .before .before .loop-test .taken))
     loop-again

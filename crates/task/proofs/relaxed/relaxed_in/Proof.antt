@@ -33,7 +33,7 @@ relaxed-at-requires c κs =
     let s = c .before .before .before .before .before .before .before .before .before .before .before .before .before .before in
     let f = now (s .args .file) in
     let ok = sym (c .before .before .before .before .before .check-sets .ensures) ∙ ap checkedAnswer (c .before .before .before .enum-told .given .1) in
-    relaxable f (s .pre) (s .args .action) (sizes-there f (s .pre) (same s)) (own-nodes (take 64 (drop 128 (now (s .args .row)))) (getD (take 32 (drop 96 (now (s .args .row)))) (s .args .action) 0) (c .before .before .offset-within .ensures)) (relaxed-inside _ _ ok) (c .before .before .before .before .before .before .before .if1 .left)
+    relaxable f (s .pre) (s .args .action) (sizes-there f (s .pre) (same s)) (own-nodes (take 128 (drop 128 (now (s .args .row)))) (getD (take 32 (drop 96 (now (s .args .row)))) (s .args .action) 0) (c .before .before .offset-within .ensures)) (relaxed-inside _ _ ok) (c .before .before .before .before .before .before .before .if1 .left)
 
 returns-2 : tie.Need-returns-2
 returns-2 c =
@@ -46,7 +46,7 @@ returns-3 c =
     let f = now (s .args .file) in
     let ok = sym (c .before .before .before .before .before .before .check-sets .ensures) ∙ ap checkedAnswer (c .before .before .before .before .enum-told .given .1) in
     sym (ask-is f (s .pre) checkRelaxed relaxedCost (s .args .action) (now (s .args .sets)) (c .before .before .before .before .before .before .before .before .if1 .left) (same s) ok (λ x h good.
-    c .relaxed-at .ensures ∙ relaxed-in-place f (s .pre) (s .args .action) (sizes-there f (s .pre) (same s)) (own-nodes (take 64 (drop 128 (now (s .args .row)))) (getD (take 32 (drop 96 (now (s .args .row)))) (s .args .action) 0) (c .before .before .before .offset-within .ensures)) (relaxed-inside _ _ ok) h))
+    c .relaxed-at .ensures ∙ relaxed-in-place f (s .pre) (s .args .action) (sizes-there f (s .pre) (same s)) (own-nodes (take 128 (drop 128 (now (s .args .row)))) (getD (take 32 (drop 96 (now (s .args .row)))) (s .args .action) 0) (c .before .before .before .offset-within .ensures)) (relaxed-inside _ _ ok) h))
 
 pub relaxed-in-spec : {M : Type 1} → statement M
 relaxed-in-spec =

@@ -27,7 +27,7 @@ returns-2 c =
     let d = c .before .before .diagram-end .ensures in
     let front = front-is (c .before .before .before .before .before) in
     let row = c .before .before .before .before .before .before .before .before .before .front-end .ensures .1 _ (ap pastAnswer (c .before .before .before .before .before .place .given .1)) in
-    (d .0 ∙ sym (action-diagram _ _ _ _ front), λ p q. action-placed _ _ _ _ front row (d .1))
+    (d .0 ∙ sym (action-diagram _ _ _ _ front), λ p q. action-placed _ _ _ _ front row (d .1 p q))
 
 pub action-end-spec : {M : Type 1} → statement M
 action-end-spec =

@@ -8,10 +8,10 @@ use Rattle.taskfile.proofs.walk.edge_at.Tie as tie
 
 returns : tie.Need-returns
 returns c =
-    let a = c .before .before .before .before .before .args in
+    let a = c .before .before .before .before .args in
     let r = c .edge-for .ensures in
-    let e = edge-is (now (a .file)) (a .node) (now (a .state)) (c .before .before .byte-at .ensures) (c .before .byte-at2 .ensures) refl (r .0) (r .1) in
+    let e = edge-is (now (a .file)) (a .node) (a .variable) (now (a .state)) (c .before .byte-at .ensures) refl (r .0) (r .1) in
     (e .0, e .1, r .2)
 
 pub edge-at-spec : {M : Type 1} → statement M
-edge-at-spec = tie.close (tie.spec (λ c κs. search needs) (λ c. search needs) (λ c κs. search needs) (λ c κs. search needs) returns)
+edge-at-spec = tie.close (tie.spec (λ c κs. search needs) (λ c κs. search needs) returns)

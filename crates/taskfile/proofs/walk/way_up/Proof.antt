@@ -20,22 +20,22 @@ abbrev μ-loop : tie.MeasureT-loop
 μ-loop file nodes count state cost₀ passed₀ k₀ cost passed k = suc count - k
 
 add-cost : tie.Need-add-cost Inv-loop μ-loop
-add-cost c = omega (arith, c .before .edge-at .ensures .2, c .before .before .before .before .loop .inv, c .before .before .before .before .before .before .before .before .pre)
+add-cost c = omega (arith, c .before .edge-at .ensures .2, c .before .before .before .before .before .loop .inv, c .before .before .before .before .before .before .before .before .before .pre)
 
 returns : tie.Need-returns Inv-loop μ-loop
 returns c =
-    let a = c .before .before .before .before .before .before .before .before .before .before .args in
-    let l = c .before .before .before .before .before .before .loop in
+    let a = c .before .before .before .before .before .before .before .before .before .before .before .args in
+    let l = c .before .before .before .before .before .before .before .loop in
     let e = c .before .before .before .edge-at .ensures in
-    let t = turn-ends (now (a .file)) (now (a .nodes)) (a .count) (now (a .state)) (l .k) (c .before .before .before .before .offset-at .ensures) (e .0) (e .1) (c .before .before .before .before .before .loop-test .taken) (c .if1 .taken) in
-    (omega (arith, l .inv, t), omega (arith, l .inv, t), omega (arith, l .inv, e .2, c .before .before .before .before .before .loop-test .taken), omega (arith, l .inv, c .before .before .before .before .before .loop-test .taken))
+    let t = turn-ends (now (a .file)) (now (a .nodes)) (a .count) (now (a .state)) (l .k) (c .before .before .before .before .offset-at2 .ensures) (c .before .before .before .before .before .offset-at .ensures) (e .0) (e .1) (c .before .before .before .before .before .before .loop-test .taken) (c .if1 .taken) in
+    (omega (arith, l .inv, t), omega (arith, l .inv, t), omega (arith, l .inv, e .2, c .before .before .before .before .before .before .loop-test .taken), omega (arith, l .inv, c .before .before .before .before .before .before .loop-test .taken))
 
 loop-again : tie.Need-loop-again Inv-loop μ-loop
 loop-again c =
-    let a = c .before .before .before .before .before .before .before .before .before .before .args in
-    let l = c .before .before .before .before .before .before .loop in
+    let a = c .before .before .before .before .before .before .before .before .before .before .before .args in
+    let l = c .before .before .before .before .before .before .before .loop in
     let e = c .before .before .before .edge-at .ensures in
-    let t = turn-up (now (a .file)) (now (a .nodes)) (a .count) (now (a .state)) (l .k) (c .before .before .before .before .offset-at .ensures) (e .0) (e .1) (c .before .before .before .before .before .loop-test .taken) (c .if1 .left) in
+    let t = turn-up (now (a .file)) (now (a .nodes)) (a .count) (now (a .state)) (l .k) (c .before .before .before .before .offset-at2 .ensures) (c .before .before .before .before .before .offset-at .ensures) (e .0) (e .1) (c .before .before .before .before .before .before .loop-test .taken) (c .if1 .left) in
     (omega (arith, l .inv), omega (arith, l .inv), omega (arith, l .inv, e .2), omega (arith, l .inv, t), omega (arith, l .inv, t))
 
 returns-2 : tie.Need-returns-2 Inv-loop μ-loop
@@ -53,10 +53,13 @@ way-up-spec =
     μ-loop
     (λ c. (omega arith, omega arith, omega arith, omega arith, omega arith))
     (λ c. omega (arith, c .before .loop .inv))
+    (λ c. omega (arith, c .loop-test .taken, c .before .before .before .before .before .pre))
+    (λ c κs. search needs)
+    (λ c. omega (arith, c .before .before .loop .inv))
     (λ c κs. search needs)
     (λ c κs. search needs)
     add-cost
-    (λ c. omega (arith, c .before .before .before .before .loop .inv))
+    (λ c. omega (arith, c .before .before .before .before .before .loop .inv))
     returns
     (λ c. omega arith)
     loop-again
