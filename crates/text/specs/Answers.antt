@@ -1,16 +1,15 @@
 -- What the answers of the code mean.
-use Prim.Native.Nat.{ℕ, _≤_, _<_}
+use Prim.Native.Nat.{ℕ, _≤_, _<_, min}
 use mathlib.Core.Path.{_≡_}
 use mathlib.Core.List.{List, [], _∷_}
-use lib.ListN.{length, take, drop}
-use Rattle.facts.specs.Write.{over}
+use lib.ListN.{length, drop}
 use Rattle.text.specs.declared.Found.{Found}
 use Rattle.text.specs.declared.Found.the-variants.{Count, Stray as StrayFound, Large as LargeFound}
 use Rattle.text.specs.declared.One.{One}
 use Rattle.text.specs.declared.One.the-variants.{Number as OneNumber, None, More, Stray as StrayOne, Large as LargeOne}
 use Rattle.text.specs.declared.Token.{Token}
 use Rattle.text.specs.declared.Token.the-variants.{Number, End, Stray, Large}
-use Rattle.text.specs.Text.{Parsed, parsed, stray, large, withParsed, between, numbersFrom, numbersOf, Only, one, none, more}
+use Rattle.text.specs.Text.{Parsed, parsed, stray, large, withParsed, between, numbersFrom, Only, one, none, more}
 
 -- how many numbers a text has
 abbrev pub foundAnswer : Found → Parsed ℕ
@@ -43,6 +42,13 @@ Bounds most text from (Large p) = Unit {0}
 pub record Ahead (most : ℕ) (text : List ℕ) (from : ℕ) (r : Token) : Type 0 where
   pub bounds : Bounds most text from r
 
--- a text with nothing wrong has its numbers at the front of the buffer
-abbrev pub Fills : ℕ → List ℕ → List ℕ → List ℕ → Type 0
-Fills most text before now = (xs : List ℕ) → numbersOf most text ≡ parsed xs → now ≡ over (take (length before) xs) before
+-- how many of so many numbers go into a buffer, the lesser of both; none where something is wrong
+abbrev pub withRoom : ℕ → Parsed ℕ → ℕ
+withRoom room (parsed n) = min n room
+withRoom room (stray p) = 0
+withRoom room (large p) = 0
+
+-- where numbers stand from an offset on, this is the first, and the others stand from its end on
+pub record Leads (most : ℕ) (text : List ℕ) (from n end : ℕ) : Type 0 where
+  pub small : n ≤ most
+  pub leads : {x : ℕ} {xs : List ℕ} → numbersFrom most between from (drop from text) ≡ parsed (x ∷ xs) → (n ≡ x) × (numbersFrom most between end (drop end text) ≡ parsed xs)

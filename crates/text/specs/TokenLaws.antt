@@ -1,16 +1,16 @@
 -- Laws of the next number of a text, and of loops over them.
-use Prim.Native.Nat.{ℕ, suc, _+_, _-_, _≤_, _<_}
+use Prim.Native.Nat.{ℕ, zero, suc, _+_, _≤_, _<_, min}
 use mathlib.Core.Path.{_≡_, refl, sym, ap, subst, _∙_}
 use mathlib.Core.List.{List, [], _∷_, append-assoc}
 use native.Mathlib.Omega.{arith}
 use native.Mathlib.Numerals.{add-one}
-use lib.ListN.{length, take, drop, set, getD, length-drop, length-set}
-use lib.Seq.{drop-cons, take-suc, take-all, length-take-le, set-at}
+use lib.ListN.{length, take, drop, set, getD, length-set}
+use lib.Seq.{drop-cons, take-suc, take-nil, length-take-le, set-at}
 use Rattle.facts.specs.Write.{over}
 use Rattle.text.specs.declared.Token.{Token}
 use Rattle.text.specs.declared.Token.the-variants.{Number, End, Stray, Large}
 use Rattle.text.specs.Text.{Parsed, parsed, stray, large, withParsed, between, numbersFrom, numbersOf, countOf, bufferOf, one, more, onlyOf}
-use Rattle.text.specs.Answers.{tokenAnswer, Bounds, Ahead, Fills}
+use Rattle.text.specs.Answers.{tokenAnswer, Bounds, Ahead, Leads, withRoom}
 
 -- what is ahead of an offset is ahead of those before it
 bounds-from : (most : ℕ) (text : List ℕ) (from at : ℕ) (r : Token) → from ≤ at → Bounds most text at r → Bounds most text from r
@@ -67,31 +67,28 @@ module _ {most : ℕ} {text : List ℕ} {at count : ℕ} (g : Counting most text
 
 -- ---- the numbers in a buffer
 
--- i numbers of xs, those before the offset, stand at the front
-pub record Filled (most : ℕ) (text xs before now : List ℕ) (at i : ℕ) : Type 0 where
-  pub few : i ≤ length xs
-  pub front : now ≡ over (take i xs) before
-  pub rest : numbersFrom most between at (drop at text) ≡ parsed (drop i xs)
-
--- and so it is whatever the numbers of the text are
-pub record Filling (most : ℕ) (text before now : List ℕ) (at i : ℕ) : Type 0 where
-  pub long : length now ≡ length before
-  pub room : i ≤ length before
-  pub fills : (xs : List ℕ) → numbersOf most text ≡ parsed xs → Filled most text xs before now at i
-
-pub filling-start : (most : ℕ) (text out : List ℕ) → Filling most text out out 0 0
-unfolding numbersOf over
-filling-start most text out = record {
-  long = refl;
-  room = omega arith;
-  fills = λ xs h. record { few = omega arith; front = refl; rest = h };
-}
-
 -- what comes first among numbers is the first of them
 first-is : (n : ℕ) (xs : List ℕ) (r : Parsed (List ℕ)) → withParsed (λ (ys : List ℕ). n ∷ ys) r ≡ parsed xs → (ys : List ℕ) × (r ≡ parsed ys) × (xs ≡ n ∷ ys)
 first-is n xs (parsed ys) h = (ys, refl, cc)
 first-is n xs (stray p) h = let z : _≡_ {A = ℕ} 0 1 = cc in absurd (omega arith)
 first-is n xs (large p) h = let z : _≡_ {A = ℕ} 0 1 = cc in absurd (omega arith)
+
+pub leads-number : {most : ℕ} {text : List ℕ} {from : ℕ} {t : Token} {n end : ℕ} → Ahead most text from t → numbersFrom most between from (drop from text) ≡ tokenAnswer most text t → t ≡ Number n end
+    → Leads most text from n end
+leads-number {most} {text} {n = n} {end} a h e = record {
+  small = ahead-number a e .0;
+  leads = λ {x} {xs} is. let (ys, r, same) = first-is n (x ∷ xs) (numbersFrom most between end (drop end text)) (sym (h ∙ ap (tokenAnswer most text) e) ∙ is) in (cc, r ∙ cc);
+}
+
+-- where no number stands nothing is said
+abbrev None : Parsed (List ℕ) → Type 0
+None (parsed []) = Unit {0}
+None (parsed (x ∷ xs)) = ⊥
+None (stray p) = Unit {0}
+None (large p) = Unit {0}
+
+pub leads-none : {most : ℕ} {text : List ℕ} {from end : ℕ} {r : Parsed (List ℕ)} → numbersFrom most between from (drop from text) ≡ r → None r → Leads most text from 0 end
+leads-none h none = record { small = omega arith; leads = λ is. absurd (subst None (sym h ∙ is) none) }
 
 -- one number more at the front
 over-one : (xs before : List ℕ) (i n : ℕ) → i < length xs → i < length before → n ≡ getD xs i 0 → set (over (take i xs) before) i n ≡ over (take (i + 1) xs) before
@@ -101,49 +98,72 @@ over-one xs before i n l m e =
     let longer : length (take (suc i) xs) ≡ suc i = length-take-le (suc i) xs (omega arith) in
     rw (add-one i, longer, long, drop-cons before i 0 m, set-at (take i xs) (getD before i 0) (drop (suc i) before) n i long, take-suc xs i 0 l, e, append-assoc (take i xs) (getD xs i 0 ∷ []) (drop (suc i) before))
 
-filled-next : {most : ℕ} {text xs before now : List ℕ} {at i : ℕ} (n end : ℕ) → Filled most text xs before now at i → i < length before
-    → numbersFrom most between at (drop at text) ≡ withParsed (λ (ys : List ℕ). n ∷ ys) (numbersFrom most between end (drop end text)) → Filled most text xs before (set now i n) end (i + 1)
-filled-next {most} {text} {xs} {before} {now} {at} {i} n end g m h =
-    let (ys, r, e) = first-is n (drop i xs) (numbersFrom most between end (drop end text)) (sym h ∙ g .rest) in
-    let longer : length xs - i ≡ suc (length ys) = sym (length-drop i xs) ∙ ap length e in
-    let l : i < length xs = omega arith in
-    let same : n ∷ ys ≡ getD xs i 0 ∷ drop (suc i) xs = sym e ∙ drop-cons xs i 0 l in
-    let first : n ≡ getD xs i 0 = cc in
-    let others : ys ≡ drop (suc i) xs = cc in
-    record {
-      few = omega arith;
-      front = ap (λ (z : List ℕ). set z i n) (g .front) ∙ over-one xs before i n l m first;
-      rest = r ∙ ap parsed (others ∙ rw (add-one i));
-    }
+-- all that there is room for
+take-room : (xs : List ℕ) (i room : ℕ) → i ≡ min (length xs) room → take i xs ≡ take room xs
+take-room [] i room e = take-nil i ∙ sym (take-nil room)
+take-room (x ∷ xs) i zero e = let none : i ≡ 0 = omega arith in ap (λ (k : ℕ). take k (x ∷ xs)) none
+take-room (x ∷ xs) i (suc room) e =
+    let more : i ≡ suc (min (length xs) room) = omega arith in
+    ap (λ (k : ℕ). take k (x ∷ xs)) more ∙ ap (λ (ys : List ℕ). x ∷ ys) (take-room xs (min (length xs) room) room refl)
 
-module _ {most : ℕ} {text before now : List ℕ} {at i : ℕ} (g : Filling most text before now at i) where
-  pub filling-next : (n end : ℕ) → i < length now → numbersFrom most between at (drop at text) ≡ withParsed (λ (ys : List ℕ). n ∷ ys) (numbersFrom most between end (drop end text))
-      → Filling most text before (set now i n) end (i + 1)
-  filling-next n end l h = record {
-    long = length-set now i n ∙ g .long;
-    room = omega (arith, g .long);
-    fills = λ xs e. filled-next n end (g .fills xs e) (omega (arith, g .long)) h;
-  }
+-- the numbers of a text; none where something is wrong
+abbrev entries : Parsed (List ℕ) → List ℕ
+entries (parsed xs) = xs
+entries (stray p) = []
+entries (large p) = []
 
-  -- no room for more
-  pub filling-full : length now ≤ i → Fills most text before now
-  filling-full l xs h = let e : i ≡ length before = omega (arith, g .long, g .room) in g .fills xs h .front ∙ ap (λ (k : ℕ). over (take k xs) before) e
+are-parsed : (r : Parsed (List ℕ)) {x : ℕ} {xs : List ℕ} → entries r ≡ x ∷ xs → r ≡ parsed (x ∷ xs)
+are-parsed (parsed ys) h = ap parsed h
+are-parsed (stray p) h = let l = ap length h in absurd (omega arith)
+are-parsed (large p) h = let l = ap length h in absurd (omega arith)
 
-  -- no numbers more
-  pub filling-end : numbersFrom most between at (drop at text) ≡ parsed [] → Fills most text before now
-  filling-end over-now xs h =
-      let f = g .fills xs h in
-      let both : parsed [] ≡ parsed (drop i xs) = sym over-now ∙ f .rest in
-      let left : [] ≡ drop i xs = cc in
-      let gone : 0 ≡ length xs - i = ap length left ∙ length-drop i xs in
-      let short : take i xs ≡ take (length before) xs = take-all i xs (omega arith) ∙ sym (take-all (length before) xs (omega (arith, g .room, f .few))) in
-      f .front ∙ ap (λ (z : List ℕ). over z before) short
+room-entries : (room : ℕ) (r : Parsed (List ℕ)) → withRoom room (withParsed length r) ≡ min (length (entries r)) room
+room-entries room (parsed xs) = refl
+room-entries room (stray p) = omega arith
+room-entries room (large p) = omega arith
 
-  pub filling-stray : {p : ℕ} → numbersFrom most between at (drop at text) ≡ stray p → Fills most text before now
-  filling-stray wrong xs h = let f = sym wrong ∙ g .fills xs h .rest in let z : _≡_ {A = ℕ} 0 1 = cc in absurd (omega arith)
+buffer-entries : (r : Parsed (List ℕ)) (out : List ℕ) → over (take (length out) (entries r)) out ≡ bufferOf r out
+unfolding over bufferOf
+buffer-entries (parsed xs) out = refl
+buffer-entries (stray p) out = rw (take-nil (length out))
+buffer-entries (large p) out = rw (take-nil (length out))
 
-  pub filling-large : {p : ℕ} → numbersFrom most between at (drop at text) ≡ large p → Fills most text before now
-  filling-large wrong xs h = let f = sym wrong ∙ g .fills xs h .rest in let z : _≡_ {A = ℕ} 0 1 = cc in absurd (omega arith)
+-- i numbers, those before the offset, stand at the front, of `count` that have room
+pub record Filling (most : ℕ) (text before now : List ℕ) (count at i : ℕ) : Type 0 where
+  pub long : length now ≡ length before
+  pub least : count ≡ min (length (entries (numbersOf most text))) (length before)
+  pub few : i ≤ count
+  pub front : now ≡ over (take i (entries (numbersOf most text))) before
+  pub rest : entries (numbersFrom most between at (drop at text)) ≡ drop i (entries (numbersOf most text))
+
+pub filling-start : (most : ℕ) (text out : List ℕ) {found : Parsed ℕ} {count : ℕ} → found ≡ countOf most text → count ≡ withRoom (length out) found → Filling most text out out count 0 0
+unfolding numbersOf countOf over
+filling-start most text out is e = record {
+  long = refl;
+  least = e ∙ ap (withRoom (length out)) is ∙ room-entries (length out) (numbersOf most text);
+  few = omega arith;
+  front = refl;
+  rest = refl;
+}
+
+module _ {most : ℕ} {text before now : List ℕ} {count at i : ℕ} (g : Filling most text before now count at i) where
+  pub filling-inside : i < count → i < length now
+  filling-inside l = omega (arith, g .long, g .least)
+
+  pub filling-next : {n end : ℕ} → i < count → Leads most text at n end → Filling most text before (set now i n) count end (i + 1)
+  filling-next {n} {end} l h =
+      let m : i < length (entries (numbersOf most text)) = omega (arith, g .least) in
+      let (first, others) = h .leads (are-parsed (numbersFrom most between at (drop at text)) (g .rest ∙ drop-cons (entries (numbersOf most text)) i 0 m)) in
+      record {
+        long = length-set now i n ∙ g .long;
+        least = g .least;
+        few = omega arith;
+        front = ap (λ (z : List ℕ). set z i n) (g .front) ∙ over-one (entries (numbersOf most text)) before i n m (omega (arith, g .least)) first;
+        rest = ap entries others ∙ rw (add-one i);
+      }
+
+  pub filling-done : count ≤ i → now ≡ bufferOf (numbersOf most text) before
+  filling-done l = g .front ∙ ap (λ (ys : List ℕ). over ys before) (take-room (entries (numbersOf most text)) i (length before) (omega (arith, g .few, g .least))) ∙ buffer-entries (numbersOf most text) before
 
 -- ---- what is answered
 
@@ -175,18 +195,6 @@ module _ (most : ℕ) (text : List ℕ) where
   pub large-of : {p : ℕ} → countOf most text ≡ large p → numbersOf most text ≡ large p
   unfolding countOf
   large-of h = is-large (numbersOf most text) h
-
-  pub buffer-filled : {n : ℕ} (before : List ℕ) {now : List ℕ} → countOf most text ≡ parsed n → Fills most text before now → now ≡ bufferOf (numbersOf most text) before
-  unfolding bufferOf
-  buffer-filled before h fills = let (xs, e, l) = count-of h in fills xs e ∙ sym (ap (λ (r : Parsed (List ℕ)). bufferOf r before) e)
-
-  pub buffer-stray : {p : ℕ} (out : List ℕ) → countOf most text ≡ stray p → out ≡ bufferOf (numbersOf most text) out
-  unfolding bufferOf
-  buffer-stray out h = sym (ap (λ (r : Parsed (List ℕ)). bufferOf r out) (stray-of h))
-
-  pub buffer-large : {p : ℕ} (out : List ℕ) → countOf most text ≡ large p → out ≡ bufferOf (numbersOf most text) out
-  unfolding bufferOf
-  buffer-large out h = sym (ap (λ (r : Parsed (List ℕ)). bufferOf r out) (large-of h))
 
   -- from the beginning
   pub from-start : (r : Parsed (List ℕ)) → numbersFrom most between 0 (drop 0 text) ≡ r → numbersOf most text ≡ r

@@ -6,46 +6,24 @@ use crate::scan::next_number;
 use crate::scan::scan;
 ghost use mathlib.Core.Path.{_≡_};
 ghost use Rattle.text.specs.Text.{withParsed, numbersOf, countOf, bufferOf, onlyOf};
-ghost use Rattle.text.specs.Answers.{foundAnswer, oneAnswer, Fills};
+ghost use Rattle.text.specs.Answers.{foundAnswer, oneAnswer, withRoom, Leads};
 
 // Puts the numbers of a text at the front of a buffer, as many as it has room for. A text that has something wrong leaves it as it was.
 pub fn numbers16(text: &[u8], most: u16, out: &mut [u16]) -> Found
     ensures { λ r. ⌜ foundAnswer r ≡ countOf most (now (text .entry)) ⌝ }
     ensures { λ r. ⌜ now (out .exit) ≡ bufferOf (numbersOf most (now (text .entry))) (now (out .entry)) ⌝ }
 {
-    match scan(text, most as u32) {
-        Found::Count(n) => {
-            fill16(text, most, out);
-            Found::Count(n)
-        }
-        Found::Stray(p) => Found::Stray(p),
-        Found::Large(p) => Found::Large(p),
-    }
-}
-
-fn fill16(text: &[u8], most: u16, out: &mut [u16])
-    ensures { λ r. ⌜ Fills most (now (text .entry)) (now (out .entry)) (now (out .exit)) ⌝ }
-{
+    let found = scan(text, most as u32);
+    let count = with_room(found, out.len());
     let mut at: usize = 0;
     let mut i: usize = 0;
-    while i < out.len() {
-        match next_number(text, at, most as u32) {
-            Token::Number(n, end) => {
-                at = end;
-                out[i] = n as u16;
-            }
-            Token::End => {
-                return;
-            }
-            Token::Stray(_) => {
-                return;
-            }
-            Token::Large(_) => {
-                return;
-            }
-        }
+    while i < count {
+        let next = entry(text, at, most as u32);
+        at = next.end;
+        out[i] = next.number as u16;
         i += 1;
     }
+    found
 }
 
 // The same for bytes.
@@ -53,38 +31,59 @@ pub fn numbers8(text: &[u8], most: u8, out: &mut [u8]) -> Found
     ensures { λ r. ⌜ foundAnswer r ≡ countOf most (now (text .entry)) ⌝ }
     ensures { λ r. ⌜ now (out .exit) ≡ bufferOf (numbersOf most (now (text .entry))) (now (out .entry)) ⌝ }
 {
-    match scan(text, most as u32) {
+    let found = scan(text, most as u32);
+    let count = with_room(found, out.len());
+    let mut at: usize = 0;
+    let mut i: usize = 0;
+    while i < count {
+        let next = entry(text, at, most as u32);
+        at = next.end;
+        out[i] = next.number as u8;
+        i += 1;
+    }
+    found
+}
+
+// How many of the numbers found go into a buffer of a length.
+fn with_room(found: Found, room: usize) -> usize
+    ensures { λ r. ⌜ r ≡ withRoom room (foundAnswer found) ⌝ }
+{
+    match found {
         Found::Count(n) => {
-            fill8(text, most, out);
-            Found::Count(n)
+            if n < room {
+                return n;
+            }
+            room
         }
-        Found::Stray(p) => Found::Stray(p),
-        Found::Large(p) => Found::Large(p),
+        Found::Stray(_) => 0,
+        Found::Large(_) => 0,
     }
 }
 
-fn fill8(text: &[u8], most: u8, out: &mut [u8])
-    ensures { λ r. ⌜ Fills most (now (text .entry)) (now (out .entry)) (now (out .exit)) ⌝ }
+// A number of a text and the offset past it.
+struct Next {
+    number: u32,
+    end: usize,
+}
+
+// The next number from an offset on, of a text that has one.
+fn entry(text: &[u8], from: usize, most: u32) -> Next
+    ensures { λ r. ⌜ Leads most (now (text .entry)) from (r .number) (r .end) ⌝ }
 {
-    let mut at: usize = 0;
-    let mut i: usize = 0;
-    while i < out.len() {
-        match next_number(text, at, most as u32) {
-            Token::Number(n, end) => {
-                at = end;
-                out[i] = n as u8;
-            }
-            Token::End => {
-                return;
-            }
-            Token::Stray(_) => {
-                return;
-            }
-            Token::Large(_) => {
-                return;
-            }
-        }
-        i += 1;
+    match next_number(text, from, most) {
+        Token::Number(number, end) => Next { number, end },
+        Token::End => Next {
+            number: 0,
+            end: from,
+        },
+        Token::Stray(_) => Next {
+            number: 0,
+            end: from,
+        },
+        Token::Large(_) => Next {
+            number: 0,
+            end: from,
+        },
     }
 }
 
