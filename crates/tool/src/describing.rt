@@ -1,22 +1,17 @@
 // The commands that describe a task or a probe list in words.
 use crate::input::is_given;
-use crate::input::read_list;
 use crate::input::read_number;
 use crate::output::done;
 use crate::output::failed;
 use crate::output::refuse;
 use crate::output::write;
 use describe::Described;
-use probe::Probe;
 use report::Subject;
 
 // The most bytes of a task in words and of its diagrams, and of the steps of a list: more than any has.
 const TASK_TEXT: usize = 65536;
 
 const STEPS_TEXT: usize = 524288;
-
-// One entry more than a list of steps may have.
-const LIST: usize = Probe::MAX_LIST + 1;
 
 // A text that was written into a buffer, or the refusal.
 fn described(answer: Described, text: &[u8], subject: Subject, explain: bool) {
@@ -58,14 +53,8 @@ fn draw_action(file: &[u8], next: usize, explain: bool) {
 }
 
 // `steps TASK LIST`: each step of a probe list by name.
-pub fn steps(file: &[u8], next: usize, explain: bool) {
-    let mut list = [0; LIST];
-    let given = read_list(next, &mut list);
-    if !given.ok {
-        return failed();
-    }
-    let n = given.length;
+pub fn steps(file: &[u8], list: &[u16], explain: bool) {
     let mut text = [0; STEPS_TEXT];
-    let answer = steps::name_steps(file, &list[..n], &mut text);
+    let answer = steps::name_steps(file, list, &mut text);
     described(answer, &text, Subject::List, explain);
 }

@@ -88,45 +88,35 @@ pub fn read_file(i: usize, buf: &mut [u8]) -> Given
     Given { ok: true, length }
 }
 
-// The numbers of the text that argument i names, as many as there is room for.
-pub fn read_list(i: usize, list: &mut [u16]) -> Given
-    ensures { λ r. ⌜ Counts (r .length) (now (list .exit)) ⌝ }
+// The text that argument i names.
+fn read_text(i: usize, text: &mut [u8]) -> Given
+    ensures { λ r. ⌜ Counts (r .length) (now (text .exit)) ⌝ }
 {
-    let mut text = [0; TEXT];
-    let given = read_file(i, &mut text);
-    if !given.ok {
-        return Given {
-            ok: false,
-            length: 0,
-        };
-    }
-    let bytes = given.length;
-    if bytes == TEXT {
+    let given = read_file(i, text);
+    if given.length == TEXT {
         fault(Fault::Long(TEXT - 1));
         return Given {
             ok: false,
             length: 0,
         };
     }
-    match text::read::numbers16(&text[..bytes], LIST_NUMBER, list) {
-        Found::Count(n) => Given {
-            ok: true,
-            length: within16(n, list),
-        },
-        Found::Stray(p) => {
-            fault(Fault::Stray(p));
-            Given {
-                ok: false,
-                length: 0,
-            }
-        }
-        Found::Large(p) => {
-            fault(Fault::Large(p, LIST_NUMBER as u32));
-            Given {
-                ok: false,
-                length: 0,
-            }
-        }
+    given
+}
+
+// The numbers of the text that argument i names, as many as there is room for. A text that was not had is empty.
+pub fn read_list(i: usize, list: &mut [u16]) -> Given
+    ensures { λ r. ⌜ Counts (r .length) (now (list .exit)) ⌝ }
+{
+    let mut text = [0; TEXT];
+    let given = read_text(i, &mut text);
+    let n = given.length;
+    let found = counted(
+        text::read::numbers16(&text[..n], LIST_NUMBER, list),
+        LIST_NUMBER as u32,
+    );
+    Given {
+        ok: given.ok && found.ok,
+        length: within16(found.length, list),
     }
 }
 
@@ -135,40 +125,27 @@ pub fn read_state(i: usize, state: &mut [u8]) -> Given
     ensures { λ r. ⌜ Counts (r .length) (now (state .exit)) ⌝ }
 {
     let mut text = [0; TEXT];
-    let given = read_file(i, &mut text);
-    if !given.ok {
-        return Given {
-            ok: false,
-            length: 0,
-        };
+    let given = read_text(i, &mut text);
+    let n = given.length;
+    let found = counted(
+        text::read::numbers8(&text[..n], STATE_NUMBER, state),
+        STATE_NUMBER as u32,
+    );
+    Given {
+        ok: given.ok && found.ok,
+        length: within(found.length, state),
     }
-    let bytes = given.length;
-    if bytes == TEXT {
-        fault(Fault::Long(TEXT - 1));
-        return Given {
-            ok: false,
-            length: 0,
-        };
-    }
-    match text::read::numbers8(&text[..bytes], STATE_NUMBER, state) {
+}
+
+// How many numbers were found, each at most `most`.
+fn counted(found: Found, most: u32) -> Given {
+    match found {
         Found::Count(n) => Given {
             ok: true,
-            length: within(n, state),
+            length: n,
         },
-        Found::Stray(p) => {
-            fault(Fault::Stray(p));
-            Given {
-                ok: false,
-                length: 0,
-            }
-        }
-        Found::Large(p) => {
-            fault(Fault::Large(p, STATE_NUMBER as u32));
-            Given {
-                ok: false,
-                length: 0,
-            }
-        }
+        Found::Stray(p) => wrong(Fault::Stray(p)),
+        Found::Large(p) => wrong(Fault::Large(p, most)),
     }
 }
 
@@ -181,33 +158,18 @@ pub fn read_number(i: usize) -> Given {
             ok: true,
             length: n as usize,
         },
-        One::None => {
-            fault(Fault::NotOne);
-            Given {
-                ok: false,
-                length: 0,
-            }
-        }
-        One::More => {
-            fault(Fault::NotOne);
-            Given {
-                ok: false,
-                length: 0,
-            }
-        }
-        One::Stray(p) => {
-            fault(Fault::Stray(p));
-            Given {
-                ok: false,
-                length: 0,
-            }
-        }
-        One::Large(p) => {
-            fault(Fault::Large(p, ARGUMENT));
-            Given {
-                ok: false,
-                length: 0,
-            }
-        }
+        One::None => wrong(Fault::NotOne),
+        One::More => wrong(Fault::NotOne),
+        One::Stray(p) => wrong(Fault::Stray(p)),
+        One::Large(p) => wrong(Fault::Large(p, ARGUMENT)),
+    }
+}
+
+// Nothing was had, and what is wrong is said.
+fn wrong(why: Fault) -> Given {
+    fault(why);
+    Given {
+        ok: false,
+        length: 0,
     }
 }

@@ -5,8 +5,10 @@ mod input;
 mod output;
 mod words;
 
-use commands::is_probe;
-use commands::is_task;
+use commands::Question;
+use commands::is_accepted;
+use commands::on_list;
+use commands::on_state;
 use input::is_probe_name;
 use input::is_word;
 use input::read_file;
@@ -43,10 +45,10 @@ fn start(first: u8, explain: bool) {
 // The command on the file that its first argument names.
 fn on_file(command: Command, file: &[u8], first: u8, explain: bool) {
     if words::is_about_probe(command, is_probe_name(first as usize)) {
-        if is_probe(file, explain) {
+        if is_accepted(probe::check(file), explain) {
             on_probe(command, file, first, explain);
         }
-    } else if is_task(file, explain) {
+    } else if is_accepted(task::check(file), explain) {
         on_task(command, file, first, explain);
     }
 }
@@ -55,9 +57,9 @@ fn on_file(command: Command, file: &[u8], first: u8, explain: bool) {
 fn on_probe(command: Command, file: &[u8], first: u8, explain: bool) {
     let next = first as usize + 1;
     match command {
-        Command::Follow => commands::follow(file, next, explain),
-        Command::Estimate => commands::estimate_probe(file, next, explain),
-        _ => commands::accepted(),
+        Command::Check => commands::accepted(),
+        Command::Estimate => on_state(Question::ProbeEstimate, file, next, explain),
+        _ => on_list(command, file, next, explain),
     }
 }
 
@@ -65,17 +67,14 @@ fn on_probe(command: Command, file: &[u8], first: u8, explain: bool) {
 fn on_task(command: Command, file: &[u8], first: u8, explain: bool) {
     let next = first as usize + 1;
     match command {
+        Command::Check => commands::accepted(),
         Command::Compile => commands::compile(file, next, explain),
-        Command::Run => commands::run(file, next, explain),
-        Command::Expand => commands::expand(file, next, explain),
-        Command::Contract => commands::contract(file, next, explain),
-        Command::Estimate => commands::estimate_task(file, next, explain),
         Command::Cost => with_action(command, file, first, explain),
         Command::Relaxed => with_action(command, file, first, explain),
+        Command::Estimate => on_state(Question::TaskEstimate, file, next, explain),
         Command::Show => describing::show(file, explain),
         Command::Draw => describing::draw(file, next, explain),
-        Command::Steps => describing::steps(file, next, explain),
-        _ => commands::accepted(),
+        _ => on_list(command, file, next, explain),
     }
 }
 
@@ -88,7 +87,7 @@ fn with_action(command: Command, file: &[u8], first: u8, explain: bool) {
     let action = given.length;
     let next = first as usize + 2;
     match command {
-        Command::Relaxed => commands::relaxed(file, action, next, explain),
-        _ => commands::cost(file, action, next, explain),
+        Command::Relaxed => on_state(Question::Relaxed(action), file, next, explain),
+        _ => on_state(Question::Cost(action), file, next, explain),
     }
 }
