@@ -20,9 +20,9 @@ use Rattle.text.specs.Append.{bytes, Adds}
 use Rattle.text.specs.AppendLaws.{adds-front, adds-end}
 use Rattle.describe.specs.Words.{partialText}
 use Rattle.describe.specs.Show.{variableText, actionText, taskText}
-use Rattle.describe.specs.Dot.{dotAction, dotText}
+use Rattle.describe.specs.Dot.{dotAction}
 use Rattle.describe.specs.DotLaws.{drawing-text, row-one}
-use Rattle.describe.specs.Rows.{rowFrom, actionFor}
+use Rattle.describe.specs.Rows.{rowFrom, actionFor, drawing}
 use Rattle.describe.specs.RowLaws.{actions-row, list-row}
 use Rattle.describe.specs.DescribeFile.{shown, drawn, drawnAction, lengthIn, textIn}
 
@@ -110,15 +110,11 @@ module _ (f : List ℕ) where
         rw (names, goal-in, actions-text (actionText (length sizes)) s, s)
 
     -- All diagrams.
-    pub drawn-is : drawn f ≡ accepted (dotText 0 (t .actions))
-    unfolding drawn
-    drawn-is = rw (there f ready .reads)
-
-    pub drawing-is : {sizes : List ℕ} → sizes ≡ t .sizes
-        → bytes "digraph costs {\n" ++ (rowFrom (λ a. dotAction a (actionFor f sizes begins (i .firsts) (i .nodes) a)) 0 (i .actions - 0) ++ bytes "}\n") ≡ dotText 0 (t .actions)
-    drawing-is {sizes} s =
+    pub drawn-is : drawn f ≡ accepted (drawing f i 0 (i .actions))
+    unfolding drawn drawing
+    drawn-is =
         let count : i .actions - 0 ≡ length begins = omega (arith, begins-long) in
-        drawing-text 0 (t .actions) (ap (rowFrom (λ a. dotAction a (actionFor f sizes begins (i .firsts) (i .nodes) a)) 0) count ∙ actions-text dotAction s)
+        rw (there f ready .reads) (ap accepted (sym (drawing-text 0 (t .actions) (ap (rowFrom (λ a. dotAction a (actionFor f (take (1 + i .variables - 1) (drop 1 f)) begins (i .firsts) (i .nodes) a)) 0) count ∙ actions-text dotAction sizes-in))))
 
     module _ (a : ℕ) where
       -- There is no such action.
@@ -127,14 +123,10 @@ module _ (f : List ℕ) where
       action-missing l = rw (there f ready .reads, look-none (t .actions) a (omega (arith, there f ready .actions)), actionOf)
 
       -- The diagram of one action.
-      pub action-is : {sizes : List ℕ} → sizes ≡ t .sizes → a < i .actions → drawnAction f a ≡ accepted (dotText a (actionFor f sizes begins (i .firsts) (i .nodes) a ∷ []))
-      unfolding drawnAction actionOf
-      action-is {sizes} s l =
+      pub action-is : a < i .actions → drawnAction f a ≡ accepted (drawing f i a (a + 1))
+      unfolding drawnAction actionOf drawing
+      action-is l =
           let x = at-some (t .actions) a (omega (arith, there f ready .actions)) in
-          let same : actionFor f sizes begins (i .firsts) (i .nodes) a ≡ x .0 = rw s (action-here f (located f ready .lies t (there f ready .reads) a (x .0) (x .1))) in
-          rw (there f ready .reads, look (x .1), actionOf, same)
-
-      pub diagram-is : (sizes : List ℕ)
-          → bytes "digraph costs {\n" ++ (rowFrom (λ a. dotAction a (actionFor f sizes begins (i .firsts) (i .nodes) a)) a (a + 1 - a) ++ bytes "}\n")
-          ≡ dotText a (actionFor f sizes begins (i .firsts) (i .nodes) a ∷ [])
-      diagram-is sizes = drawing-text a (actionFor f sizes begins (i .firsts) (i .nodes) a ∷ []) (row-one (λ a. dotAction a (actionFor f sizes begins (i .firsts) (i .nodes) a)) a)
+          let same : actionFor f (take (1 + i .variables - 1) (drop 1 f)) begins (i .firsts) (i .nodes) a ≡ x .0 = rw sizes-in (action-here f (located f ready .lies t (there f ready .reads) a (x .0) (x .1))) in
+          rw (there f ready .reads, look (x .1), actionOf)
+          (ap accepted (sym (drawing-text a (x .0 ∷ []) (row-one (λ a. dotAction a (actionFor f (take (1 + i .variables - 1) (drop 1 f)) begins (i .firsts) (i .nodes) a)) a ∙ ap (λ (y : Action). dotAction a y ++ []) same))))

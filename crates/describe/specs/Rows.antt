@@ -1,11 +1,13 @@
 -- Rows of texts, and the parts of a task in place by number.
-use Prim.Native.Nat.{ℕ, zero, suc, _+_, _*_}
+use Prim.Native.Nat.{ℕ, zero, suc, _+_, _*_, _-_}
 use mathlib.Core.List.{List, [], _++_}
-use lib.ListN.{getD, drop}
+use lib.ListN.{getD, take, drop}
 use Rattle.taskfile.specs.Task.{Edge, Node, Action}
 use Rattle.taskfile.specs.TaskFile.{edgeBytes}
+use Rattle.taskfile.specs.Index.{Index}
 use Rattle.taskfile.specs.PartsInPlace.{edgeIn, nodeIn, actionIn}
-use Rattle.text.specs.Append.{Adds}
+use Rattle.text.specs.Append.{bytes, Adds}
+use Rattle.describe.specs.Dot.{dotAction}
 
 -- what f gives for each of `count` numbers from i on, each straight after the last one's
 abbrev pub rowFrom : {X : Type 0} → (ℕ → List X) → ℕ → ℕ → List X
@@ -29,3 +31,8 @@ module _ (f : List ℕ) where
   -- action number a: `starts` has the offset of each, `firsts` the index of its first node in `nodes`
   abbrev pub actionFor : List ℕ → List ℕ → List ℕ → List ℕ → ℕ → Action
   actionFor sizes starts firsts nodes a = actionIn f sizes (getD starts a 0) (drop (getD firsts a 0) nodes)
+
+  -- the cost diagrams of the actions from one number up to another, in one drawing
+  unfoldable pub drawing : Index → ℕ → ℕ → List ℕ
+  drawing i from end =
+      bytes "digraph costs {\n" ++ (rowFrom (λ a. dotAction a (actionFor (take (1 + i .variables - 1) (drop 1 f)) (take (i .actions) (i .starts)) (i .firsts) (i .nodes) a)) from (end - from) ++ bytes "}\n")

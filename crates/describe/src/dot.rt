@@ -3,35 +3,52 @@ use crate::words::put_numbered;
 use facts::number::byte_at;
 use facts::number::offset_at;
 use facts::number::offset_within;
+use taskfile::Task;
 use taskfile::walk::diagram_at;
 use taskfile::walk::edge_for;
 use text::append::append;
-ghost use mathlib.Core.List.{_++_};
 ghost use Prim.Native.Nat.{_+_, _-_};
+ghost use Rattle.taskfile.specs.Index.{indexOf, Ready};
 ghost use Rattle.taskfile.specs.PartsInPlace.{nodeIn, actionIn};
-ghost use Rattle.text.specs.Append.{bytes, Adds};
+ghost use Rattle.text.specs.Append.{Adds};
 ghost use Rattle.describe.specs.Dot.{nodeName, dotEdge, dotNode, dotEntry, dotAction};
-ghost use Rattle.describe.specs.Rows.{rowFrom, AddsTwo, edgeFor, nodeFor, actionFor};
+ghost use Rattle.describe.specs.Rows.{rowFrom, AddsTwo, edgeFor, nodeFor, actionFor, drawing};
 
-// All actions from number `from` up to `end`, in one drawing: `starts` has the offset of each, `firsts` the index of its first node in `nodes`.
+// All actions from number `from` up to `end`, in one drawing, of an accepted file by its index.
 pub fn put_drawing(
     out: &mut [u8],
     file: &[u8],
-    sizes: &[u8],
-    starts: &[usize],
-    firsts: &[usize],
-    nodes: &[usize],
+    variables: usize,
+    actions: usize,
+    row: &[usize],
     from: usize,
     end: usize,
 ) -> usize
-    ensures { λ r. ⌜ Adds (bytes "digraph costs {\n" ++ (rowFrom (λ a. dotAction a (actionFor (now (file .entry)) (now (sizes .entry)) (now (starts .entry)) (now (firsts .entry)) (now (nodes .entry)) a)) from (end - from) ++ bytes "}\n")) (now (out .entry)) (now (out .exit)) 0 r ⌝ }
+    requires { ⌜ Ready (now file) (indexOf variables actions (now row)) ⌝ }
+    ensures { λ r. ⌜ Adds (drawing (now (file .entry)) (indexOf variables actions (now (row .entry))) from end) (now (out .entry)) (now (out .exit)) 0 r ⌝ }
 {
+    let starts = &row[..Task::FIRSTS];
+    let firsts = &row[Task::FIRSTS..Task::NODES];
+    let nodes = &row[Task::NODES..Task::ROW];
+    let last = 1 + variables;
+    let sizes = &file[1..last];
+    let action_at = &starts[..actions];
     let opened = append(out, 0, b"digraph costs {\n");
-    let drawn = put_diagrams(out, opened, file, sizes, starts, firsts, nodes, from, end);
+    let drawn = put_diagrams(
+        out,
+        opened,
+        file,
+        sizes,
+        action_at,
+        firsts,
+        nodes,
+        from,
+        end,
+    );
     append(out, drawn, b"}\n")
 }
 
-// The same, without what opens and closes the drawing.
+// The same, without what opens and closes the drawing: `starts` has the offset of each action, `firsts` the index of its first node in `nodes`.
 fn put_diagrams(
     out: &mut [u8],
     at: usize,

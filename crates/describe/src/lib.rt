@@ -65,38 +65,11 @@ pub fn draw(file: &[u8], out: &mut [u8]) -> Described
     let mut row = [0; Task::ROW];
     match taskfile::index_in(file, &mut row) {
         Counted::Refused(why) => Described::Refused(why),
-        Counted::Actions(variables, actions) => { draw_in(file, variables, actions, &row, out) }
+        Counted::Actions(variables, actions) => {
+            let end = dot::put_drawing(out, file, variables, actions, &row, 0, actions);
+            Described::Length(end)
+        }
     }
-}
-
-// The same, of a file that is accepted.
-fn draw_in(
-    file: &[u8],
-    variables: usize,
-    actions: usize,
-    row: &[usize],
-    out: &mut [u8],
-) -> Described
-    requires { ⌜ Ready (now file) (indexOf variables actions (now row)) ⌝ }
-    ensures { λ r. ⌜ describedAnswer r ≡ lengthIn (length (now (out .entry))) (drawn (now (file .entry))) ⌝ }
-    ensures { λ r. ⌜ now (out .exit) ≡ textIn (now (out .entry)) (drawn (now (file .entry))) ⌝ }
-{
-    let starts = &row[..Task::FIRSTS];
-    let firsts = &row[Task::FIRSTS..Task::NODES];
-    let nodes = &row[Task::NODES..Task::ROW];
-    let last = 1 + variables;
-    let action_at = &starts[..actions];
-    let end = dot::put_drawing(
-        out,
-        file,
-        &file[1..last],
-        action_at,
-        firsts,
-        nodes,
-        0,
-        actions,
-    );
-    Described::Length(end)
 }
 
 // The cost diagram of an action: the task file's refusals, then 11 for the number; a refusal changes no byte.
@@ -108,41 +81,11 @@ pub fn draw_action(file: &[u8], action: usize, out: &mut [u8]) -> Described
     match taskfile::index_in(file, &mut row) {
         Counted::Refused(why) => Described::Refused(why),
         Counted::Actions(variables, actions) => {
-            draw_one_in(file, variables, actions, &row, action, out)
+            if actions <= action {
+                return Described::Refused(Refusal::Missing(0));
+            }
+            let end = dot::put_drawing(out, file, variables, actions, &row, action, action + 1);
+            Described::Length(end)
         }
     }
-}
-
-// The same, of a file that is accepted.
-fn draw_one_in(
-    file: &[u8],
-    variables: usize,
-    actions: usize,
-    row: &[usize],
-    action: usize,
-    out: &mut [u8],
-) -> Described
-    requires { ⌜ Ready (now file) (indexOf variables actions (now row)) ⌝ }
-    ensures { λ r. ⌜ describedAnswer r ≡ lengthIn (length (now (out .entry))) (drawnAction (now (file .entry)) action) ⌝ }
-    ensures { λ r. ⌜ now (out .exit) ≡ textIn (now (out .entry)) (drawnAction (now (file .entry)) action) ⌝ }
-{
-    let starts = &row[..Task::FIRSTS];
-    let firsts = &row[Task::FIRSTS..Task::NODES];
-    let nodes = &row[Task::NODES..Task::ROW];
-    if actions <= action {
-        return Described::Refused(Refusal::Missing(0));
-    }
-    let last = 1 + variables;
-    let action_at = &starts[..actions];
-    let end = dot::put_drawing(
-        out,
-        file,
-        &file[1..last],
-        action_at,
-        firsts,
-        nodes,
-        action,
-        action + 1,
-    );
-    Described::Length(end)
 }

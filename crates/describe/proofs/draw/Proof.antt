@@ -3,14 +3,14 @@ use mathlib.Core.Path.{sym, ap, _∙_}
 use denote.Ref.{now}
 use Rattle.taskfile.specs.Answers.{countedAnswer}
 use Rattle.taskfile.specs.TaskIndexLaws.{index-ready, index-refused}
-use Rattle.describe.specs.DescribeLaws.{drawn-refused, refused-in}
+use Rattle.describe.specs.DescribeLaws.{drawn-refused, drawn-is, refused-in, written-in}
 use borrow.Author.Needs.{needs}
 use native.Mathlib.Omega.{arith}
 use Rattle.describe.proofs.draw.Statement.{statement}
 use Rattle.describe.proofs.draw.Tie as tie
 
-draw-in-requires : tie.Need-draw-in-requires
-draw-in-requires c κs =
+put-drawing-requires : tie.Need-put-drawing-requires
+put-drawing-requires c κs =
     let i = c .before .before .before .before .before .before .index-in .ensures in
     index-ready _ (i .0) (i .1) (ap countedAnswer (c .before .before .before .variables .given .1)) (omega (arith, c .before .before .before .before .before .row2 .given))
 
@@ -18,6 +18,12 @@ returns : tie.Need-returns
 returns c =
     let s = c .before .before .before .before .before .before .before .before in
     refused-in (now (s .args .out)) (drawn-refused (now (s .args .file)) (index-refused _ (sym (c .before .before .before .before .index-in .ensures .0) ∙ ap countedAnswer (c .before .why .given .1))))
+
+returns-2 : tie.Need-returns-2
+returns-2 c =
+    let i = c .before .before .before .before .before .before .before .before .before .index-in .ensures in
+    let ready = index-ready _ (i .0) (i .1) (ap countedAnswer (c .before .before .before .before .before .before .variables .given .1)) (omega (arith, c .before .before .before .before .before .before .before .before .row2 .given)) in
+    written-in (drawn-is (now (c .before .before .before .before .before .before .before .before .before .before .before .before .before .args .file)) ready) (c .before .before .put-drawing .ensures)
 
 pub draw-spec : {M : Type 1} → statement M
 draw-spec =
@@ -28,7 +34,7 @@ draw-spec =
     (λ c. search needs)
     (λ c. search needs)
     (λ c. search needs)
-    draw-in-requires
+    put-drawing-requires
     returns
     (λ c. search needs)
-    (λ c. search needs))
+    returns-2)

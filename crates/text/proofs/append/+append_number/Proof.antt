@@ -27,51 +27,18 @@ append-number-below t =
     (falls 1 append-number-kinds.ps _<_ μ-append-number t)
     append-number.Pre
 
-append-number-cast-append-byte : (t : ℕ) → append-number-lts.Need-cast-append-byte (append-byte-reads.Asked, append-byte-reads.Learnt, append-number-below t, append-number.Post) (append-number-at t) append-number.Post
-append-number-cast-append-byte t c = omega arith
-
-append-number-add-append-byte : (t : ℕ) → append-number-lts.Need-add-append-byte (append-byte-reads.Asked, append-byte-reads.Learnt, append-number-below t, append-number.Post) (append-number-at t) append-number.Post
-append-number-add-append-byte t c = omega arith
-
-append-number-append-byte-requires : (t : ℕ) → append-number-lts.Need-append-byte-requires (append-byte-reads.Asked, append-byte-reads.Learnt, append-number-below t, append-number.Post) (append-number-at t) append-number.Post
-append-number-append-byte-requires t c κs = search needs
-
-append-number-same-length : (t : ℕ) → append-number-lts.Need-same-length (append-byte-reads.Asked, append-byte-reads.Learnt, append-number-below t, append-number.Post) (append-number-at t) append-number.Post
-append-number-same-length t c = search needs
-
-append-number-returns : (t : ℕ) → append-number-lts.Need-returns (append-byte-reads.Asked, append-byte-reads.Learnt, append-number-below t, append-number.Post) (append-number-at t) append-number.Post
-append-number-returns t c = digits-one (c .before .before .before .before .if1 .taken) (c .before .before .append-byte .ensures)
-
-append-number-append-number-requires : (t : ℕ) → append-number-lts.Need-append-number-requires (append-byte-reads.Asked, append-byte-reads.Learnt, append-number-below t, append-number.Post) (append-number-at t) append-number.Post
-append-number-append-number-requires t c κs = omega arith
-
-append-number-cast-append-byte-2 : (t : ℕ) → append-number-lts.Need-cast-append-byte-2 (append-byte-reads.Asked, append-byte-reads.Learnt, append-number-below t, append-number.Post) (append-number-at t) append-number.Post
-append-number-cast-append-byte-2 t c = omega arith
-
-append-number-add-append-byte-2 : (t : ℕ) → append-number-lts.Need-add-append-byte-2 (append-byte-reads.Asked, append-byte-reads.Learnt, append-number-below t, append-number.Post) (append-number-at t) append-number.Post
-append-number-add-append-byte-2 t c = omega arith
-
-append-number-append-byte-requires-2 : (t : ℕ) → append-number-lts.Need-append-byte-requires-2 (append-byte-reads.Asked, append-byte-reads.Learnt, append-number-below t, append-number.Post) (append-number-at t) append-number.Post
-append-number-append-byte-requires-2 t c κs = search needs
-
-append-number-same-length-2 : (t : ℕ) → append-number-lts.Need-same-length-2 (append-byte-reads.Asked, append-byte-reads.Learnt, append-number-below t, append-number.Post) (append-number-at t) append-number.Post
-append-number-same-length-2 t c = search needs
-
-append-number-returns-2 : (t : ℕ) → append-number-lts.Need-returns-2 (append-byte-reads.Asked, append-byte-reads.Learnt, append-number-below t, append-number.Post) (append-number-at t) append-number.Post
-append-number-returns-2 t c = digits-more (c .before .before .before .before .before .before .before .before .if1 .left) (c .before .before .before .before .before .before .append-number .ensures) (c .before .before .append-byte2 .ensures)
-
 pub +append-number-spec : {M : Type 1} → statement M
 +append-number-spec = close μ-append-number λ t. append-number-lts.spec (append-byte-reads.Asked, append-byte-reads.Learnt, append-number-below t, append-number.Post)
     (append-number-at t)
     append-number.Post
-    (append-number-cast-append-byte t)
-    (append-number-add-append-byte t)
-    (append-number-append-byte-requires t)
-    (append-number-same-length t)
-    (append-number-returns t)
-    (append-number-append-number-requires t)
-    (append-number-cast-append-byte-2 t)
-    (append-number-add-append-byte-2 t)
-    (append-number-append-byte-requires-2 t)
-    (append-number-same-length-2 t)
-    (append-number-returns-2 t)
+    (λ c. omega arith)
+    (λ c. omega arith)
+    (λ c κs. search needs)
+    (λ c. search needs)
+    (λ c. digits-one (c .before .before .before .before .if1 .taken) (c .before .before .append-byte .ensures))
+    (λ c κs. omega arith)
+    (λ c. omega arith)
+    (λ c. omega arith)
+    (λ c κs. search needs)
+    (λ c. search needs)
+    (λ c. digits-more (c .before .before .before .before .before .before .before .before .if1 .left) (c .before .before .before .before .before .before .append-number .ensures) (c .before .before .append-byte2 .ensures))
