@@ -10,7 +10,7 @@ use borrow.Author.Tests.{lt-leb}
 use Rattle.facts.specs.Read.{Read, accepted, refused, _>>=_}
 use Rattle.facts.specs.Write.{over, Wrote}
 use Rattle.facts.specs.WriteLaws.{fitting-none}
-use Rattle.compile.specs.PutLaws.{Cut, Going, going-same}
+use Rattle.facts.specs.WriteRowLaws.{Cut, Going, going-same}
 use Rattle.carry.specs.CarryFile.{answerIn, bufferIn}
 use Rattle.carry.specs.SameSumLaws.{answer-in, buffer-in}
 

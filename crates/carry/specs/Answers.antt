@@ -7,8 +7,8 @@ use Rattle.facts.specs.Refusal.{number, place}
 use Rattle.facts.specs.Read.{Read, accepted, refused}
 use Rattle.carry.specs.declared.Carried.{Carried}
 use Rattle.carry.specs.declared.Carried.the-variants.{List as Listed, Refused as NotCarried}
-use Rattle.carry.specs.declared.starts.Starts.{Starts}
-use Rattle.carry.specs.declared.starts.Starts.the-variants.{Count, TooMany}
+use Rattle.carry.specs.declared.Starts.{Starts}
+use Rattle.carry.specs.declared.Starts.the-variants.{Count, TooMany}
 
 -- the length of the list that was written, and its sum
 abbrev pub carriedAnswer : Carried → Read (ℕ × ℕ)

@@ -9,8 +9,8 @@ use Rattle.facts.specs.Write.{over, fitting}
 use Rattle.facts.specs.Run.{atMost}
 use Rattle.taskfile.specs.Task.{Action, maxList, taskSum}
 use Rattle.taskfile.specs.TaskFile.{readTask}
-use Rattle.probe.specs.Probe.{probeSum}
-use Rattle.probe.specs.Probe.{maxList as maxProbeList}
+use Rattle.probefile.specs.Probe.{probeSum}
+use Rattle.probefile.specs.Probe.{maxList as maxProbeList}
 use Rattle.compilation.specs.Compile.{probeOf}
 use Rattle.plans.specs.Carry.{expand, startedBy, contract}
 

@@ -7,13 +7,5 @@ pub mod SameSumLaws
 -- Demand 3 over files, and plans carried across and back.
 pub mod SameSum
 -- What the code is promised by, in place.
-pub mod InPlace
-pub mod Follow
 -- Laws of the code.
 pub mod AnswerLaws
-pub mod ActionLaws
-pub mod NumberLaws
-pub mod ExpandLaws
-pub mod NoteLaws
-pub mod ContractLaws
-pub mod FollowLaws

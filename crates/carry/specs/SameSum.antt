@@ -17,11 +17,11 @@ use Rattle.facts.specs.Write.{over}
 use Rattle.taskfile.specs.Task.{Task, Plan}
 use Rattle.taskfile.specs.TaskFile.{readTask}
 use Rattle.taskfile.specs.TaskReadLaws.{task-wf}
-use Rattle.probe.specs.Probe.{Probe, ProbePlan}
-use Rattle.probe.specs.ProbeFile.{readProbe, writeProbe}
+use Rattle.probefile.specs.Probe.{Probe, ProbePlan}
+use Rattle.probefile.specs.ProbeFile.{readProbe, writeProbe}
 use Rattle.compilation.specs.Compile.{probeOf}
 use Rattle.compilation.specs.CompiledLaws.{compiled-reads}
-use Rattle.compile.specs.CompileFile.{compileFile, compiledBuffer}
+use Rattle.compilation.specs.CompileFile.{compileFile, compiledBuffer}
 use Rattle.plans.specs.Carry.{expand, contract}
 use Rattle.plans.specs.Plans.{carries}
 use Rattle.carry.specs.CarryFile.{expanded, contracted, answerIn, bufferIn}

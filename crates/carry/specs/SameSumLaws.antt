@@ -17,14 +17,14 @@ use Rattle.taskfile.specs.Task.{Task, maxList, taskSum, Plan}
 use Rattle.taskfile.specs.TaskFile.{readTask}
 use Rattle.taskfile.specs.TaskReadLaws.{task-wf, task-limits}
 use Rattle.taskfile.specs.TaskLaws.{task-plan}
-use Rattle.probe.specs.Probe.{probeSum}
-use Rattle.probe.specs.Probe.{maxList as maxProbeList}
-use Rattle.probe.specs.ProbeFile.{writeProbe}
-use Rattle.probe.specs.ProbeLaws.{probe-plan}
+use Rattle.probefile.specs.Probe.{probeSum}
+use Rattle.probefile.specs.Probe.{maxList as maxProbeList}
+use Rattle.probefile.specs.ProbeFile.{writeProbe}
+use Rattle.probefile.specs.ProbeLaws.{probe-plan}
 use Rattle.compilation.specs.Compile.{probeOf}
 use Rattle.compilation.specs.CompiledLengthLaws.{compiled-length}
-use Rattle.compile.specs.CompileFile.{compileFile, compiledBuffer}
-use Rattle.compile.specs.ProgramLaws.{answer-fits}
+use Rattle.compilation.specs.CompileFile.{compileFile, compiledBuffer}
+use Rattle.compilation.specs.ProgramLaws.{answer-fits}
 use Rattle.plans.specs.Carry.{expand, contract}
 use Rattle.plans.specs.Forward.{forward}
 use Rattle.plans.specs.Contract.{contract-expand}

@@ -26,7 +26,7 @@ fn expansions() {
     show_expanded(&missing);
     show_expanded(&long);
     let mut short: [u16; 2] = [9; 2];
-    let answer = carry::expand(&P, &once, &mut short);
+    let answer = expand::expand(&P, &once, &mut short);
     show_carried(answer, &short);
 }
 
@@ -45,7 +45,7 @@ fn contractions() {
     show_contracted(&missing);
     show_contracted(&long);
     let mut short: [u16; 0] = [];
-    let answer = carry::contract(&P, &once, &mut short);
+    let answer = contract::contract(&P, &once, &mut short);
     show_carried(answer, &short);
 }
 
@@ -55,7 +55,7 @@ fn repeats() {
     show_contracted(&list[..768]);
     show_contracted(&list);
     let mut out: [u16; 256] = [9; 256];
-    let answer = carry::contract(&P, &list[..768], &mut out);
+    let answer = contract::contract(&P, &list[..768], &mut out);
     show_carried(answer, &out);
 }
 
@@ -76,13 +76,13 @@ fn repeated() -> [u16; 771]
 
 fn show_expanded(list: &[u16]) {
     let mut out: [u16; 6] = [9; 6];
-    let answer = carry::expand(&P, list, &mut out);
+    let answer = expand::expand(&P, list, &mut out);
     show_carried(answer, &out);
 }
 
 fn show_contracted(list: &[u16]) {
     let mut out: [u16; 3] = [9; 3];
-    let answer = carry::contract(&P, list, &mut out);
+    let answer = contract::contract(&P, list, &mut out);
     show_carried(answer, &out);
 }
 

@@ -12,7 +12,7 @@ use Rattle.facts.specs.Fields.{readCount, readValue, readMap, readWeight}
 use Rattle.facts.specs.Fields.{field as readField}
 use Rattle.facts.specs.FieldLaws.{number-reads, field-good, taken}
 use Rattle.taskfile.specs.TaskFile.{readVariable, readTarget}
-use Rattle.probe.specs.ProbeFile.{readStepCount, readProbe}
+use Rattle.probefile.specs.ProbeFile.{readStepCount, readProbe}
 use Rattle.cases.specs.Sites.{Kind, count, value, map, weight, steps, variable, target, bytes, good, wrong, Site, field, falling, end, Due, cut, bad, falls, goes-on, Sites, Only, only, PartialSites, partial-map, partial-value, OperatorSites, precondition, effect, number, HeadSites, variables, domain-size, initial-value, goal}
 use Rattle.cases.specs.TaskSites.{ProbeSites, probe-head, step-count, step, probe-end}
 use Rattle.cases.specs.SiteLaws.{Faults}

@@ -20,13 +20,13 @@ use Rattle.taskfile.specs.TaskFile.{readTask, costTask, runTask}
 use Rattle.taskfile.specs.Examples.{P, P-bytes, P-read, xy²+z+2-bytes, answering, list-0, empty-list, costs-6, costs-3}
 use Rattle.relaxation.specs.Estimate.{estimate}
 use Rattle.relaxation.specs.Examples.{estimate-1, estimate-2, estimate-never}
-use Rattle.task.specs.RelaxedTask.{relaxedTask}
-use Rattle.task.specs.EstimateTask.{estimateTask}
-use Rattle.task.specs.Examples.{relaxed-2, relaxed-3}
-use Rattle.probe.specs.Probe.{stepMove, probeSum}
-use Rattle.probe.specs.ProbeFile.{readStep, readStepCount, readSteps, readProbe, writeStep, writeProbe, runProbe}
+use Rattle.relaxation.specs.RelaxedTask.{relaxedTask}
+use Rattle.relaxation.specs.EstimateTask.{estimateTask}
+use Rattle.relaxation.specs.FileExamples.{relaxed-2, relaxed-3}
+use Rattle.probefile.specs.Probe.{stepMove, probeSum}
+use Rattle.probefile.specs.ProbeFile.{readStep, readStepCount, readSteps, readProbe, writeStep, writeProbe, runProbe}
 use Rattle.compilation.specs.Compile.{stepsOf, probeOf}
-use Rattle.compile.specs.CompileFile.{compileFile, compiledBuffer}
+use Rattle.compilation.specs.CompileFile.{compileFile, compiledBuffer}
 use Rattle.plans.specs.Carry.{expand}
 use Rattle.carry.specs.CarryFile.{expanded}
 

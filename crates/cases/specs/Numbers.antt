@@ -9,11 +9,11 @@ use Rattle.estimate.specs.Number.{Number}
 use Rattle.estimate.specs.Additive.{estimateFile}
 use Rattle.taskfile.specs.Task.{Task}
 use Rattle.taskfile.specs.TaskFile.{readTask, costTask, runTask}
-use Rattle.probe.specs.ProbeFile.{readProbe, runProbe}
-use Rattle.probe.specs.Estimate.{probeEstimate, estimateProbe}
-use Rattle.task.specs.RelaxedTask.{relaxedTask}
+use Rattle.probefile.specs.ProbeFile.{readProbe, runProbe}
+use Rattle.probefile.specs.Estimate.{probeEstimate, estimateProbe}
+use Rattle.relaxation.specs.RelaxedTask.{relaxedTask}
 use Rattle.compilation.specs.Compile.{probeOf}
-use Rattle.compile.specs.CompileFile.{compileFile}
+use Rattle.compilation.specs.CompileFile.{compileFile}
 use Rattle.carry.specs.CarryFile.{expanded, contracted}
 use Rattle.cases.specs.TaskSiteLaws.{task-faults, probe-faults}
 use Rattle.cases.specs.FileRows.{file-numbers, probe-numbers}

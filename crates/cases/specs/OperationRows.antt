@@ -16,11 +16,11 @@ use Rattle.facts.specs.Run.{blocked, attempt, atMost}
 use Rattle.facts.specs.RunLaws.{attempt-next, attempt-blocked, not-blocked, list-fits}
 use Rattle.taskfile.specs.Task.{Action, Task, cost, actionMove, taskSum}
 use Rattle.taskfile.specs.TaskFile.{readTask, runTask}
-use Rattle.probe.specs.Probe.{Step, Probe, stepMove, probeSum, ProbePlan}
-use Rattle.probe.specs.ProbeLaws.{probe-plan}
-use Rattle.probe.specs.ProbeFile.{readProbe, writeProbe, runProbe}
+use Rattle.probefile.specs.Probe.{Step, Probe, stepMove, probeSum, ProbePlan}
+use Rattle.probefile.specs.ProbeLaws.{probe-plan}
+use Rattle.probefile.specs.ProbeFile.{readProbe, writeProbe, runProbe}
 use Rattle.compilation.specs.Compile.{probeOf}
-use Rattle.compile.specs.CompileFile.{compileFile}
+use Rattle.compilation.specs.CompileFile.{compileFile}
 use Rattle.plans.specs.Carry.{expand, contract}
 use Rattle.carry.specs.CarryFile.{expanded, startsAtMost, contracted, answerIn}
 use Rattle.cases.specs.SiteLaws.{first, after, stops, stopped, passed, failed, unmade}

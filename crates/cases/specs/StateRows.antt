@@ -18,8 +18,8 @@ use Rattle.estimate.specs.Additive.{estimateFile}
 use Rattle.taskfile.specs.Task.{Action, Task, cost}
 use Rattle.taskfile.specs.TaskFile.{actionOf, readTask, askTask, costTask}
 use Rattle.relaxation.specs.Relaxed.{relaxedCost}
-use Rattle.task.specs.RelaxedTask.{goodSet, checkRelaxed, relaxedTask}
-use Rattle.task.specs.RelaxedTaskLaws.{set-empty, set-stray}
+use Rattle.relaxation.specs.RelaxedTask.{goodSet, checkRelaxed, relaxedTask}
+use Rattle.relaxation.specs.RelaxedTaskLaws.{set-empty, set-stray}
 use Rattle.cases.specs.SiteLaws.{first, after, stops, stopped, not-accepted, failed, unmade}
 use Rattle.cases.specs.OperationRows.{Given, given}
 

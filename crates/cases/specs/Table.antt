@@ -13,14 +13,14 @@ use Rattle.estimate.specs.Number.{Number}
 use Rattle.estimate.specs.Additive.{estimateFile}
 use Rattle.taskfile.specs.Task.{Task}
 use Rattle.taskfile.specs.TaskFile.{readTask, checkTask, costTask, runTask}
-use Rattle.probe.specs.Probe.{Probe, ProbePlan}
-use Rattle.probe.specs.ProbeFile.{readProbe, checkProbe, writeProbe, runProbe}
-use Rattle.probe.specs.Estimate.{probeEstimate, estimateProbe}
+use Rattle.probefile.specs.Probe.{Probe, ProbePlan}
+use Rattle.probefile.specs.ProbeFile.{readProbe, checkProbe, writeProbe, runProbe}
+use Rattle.probefile.specs.Estimate.{probeEstimate, estimateProbe}
 use Rattle.relaxation.specs.Estimate.{estimate}
-use Rattle.task.specs.EstimateTask.{estimateTask}
-use Rattle.task.specs.RelaxedTask.{relaxedTask}
+use Rattle.relaxation.specs.EstimateTask.{estimateTask}
+use Rattle.relaxation.specs.RelaxedTask.{relaxedTask}
 use Rattle.compilation.specs.Compile.{probeOf}
-use Rattle.compile.specs.CompileFile.{compileFile}
+use Rattle.compilation.specs.CompileFile.{compileFile}
 use Rattle.carry.specs.CarryFile.{expanded, contracted, answerIn}
 use Rattle.cases.specs.Sites.{Sites, falling}
 use Rattle.cases.specs.TaskSites.{TaskSites, ProbeSites}

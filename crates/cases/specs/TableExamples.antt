@@ -8,9 +8,9 @@ use lib.ListN.{length, set}
 use Rattle.facts.specs.Read.{refused}
 use Rattle.taskfile.specs.TaskFile.{checkTask, costTask, runTask}
 use Rattle.taskfile.specs.Examples.{P, P-bytes, P-read, answering}
-use Rattle.task.specs.RelaxedTask.{checkRelaxed, relaxedTask}
-use Rattle.probe.specs.ProbeFile.{runProbe}
-use Rattle.compile.specs.CompileFile.{compileFile}
+use Rattle.relaxation.specs.RelaxedTask.{checkRelaxed, relaxedTask}
+use Rattle.probefile.specs.ProbeFile.{runProbe}
+use Rattle.compilation.specs.CompileFile.{compileFile}
 use Rattle.cases.specs.Table.{row-7-compile, row-8-running}
 use Rattle.cases.specs.Marked.{P-probe-bytes, P-bytes-written, marked}
 

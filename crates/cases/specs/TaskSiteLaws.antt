@@ -12,7 +12,7 @@ use Rattle.facts.specs.Lists.{upFrom, there}
 use Rattle.facts.specs.Fields.{readOperator, readEnd}
 use Rattle.taskfile.specs.Task.{Action}
 use Rattle.taskfile.specs.TaskFile.{checkRising, readVariable, readTarget, readEdge, readEdges, readNode, readNodes, readDiagram, readAction, readActions, readTask}
-use Rattle.probe.specs.ProbeFile.{readStep, readStepCount, readSteps, readProbe}
+use Rattle.probefile.specs.ProbeFile.{readStep, readStepCount, readSteps, readProbe}
 use Rattle.cases.specs.Sites.{steps, variable, target, Site, field, falling, end, Due, falls, goes-on, Fault, Only, only, Among, OperatorSites}
 use Rattle.cases.specs.TaskSites.{nodeTotal, EdgeSites, edge-target, edge-weight, NodeSites, node-variable, node-edge, DiagramSites, node-count, node, fall, ActionSites, front, diagram, ActionsSites, TaskSites, head, action-count, action, task-end, ProbeSites, probe-head, step-count, step, probe-end}
 use Rattle.cases.specs.RisingLaws.{rising-found, rising-refused}

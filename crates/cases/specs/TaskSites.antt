@@ -8,8 +8,8 @@ use Rattle.facts.specs.Lists.{upFrom, total, All, At}
 use Rattle.facts.specs.Fields.{Head, Operator, readCount, readOperator, readHead}
 use Rattle.taskfile.specs.Task.{Edge, Node, Action, level}
 use Rattle.taskfile.specs.TaskFile.{edgeBytes, nodeBytes, readVariable, readTarget, readEdge, readNode, readNodes, readActions}
-use Rattle.probe.specs.Probe.{Step}
-use Rattle.probe.specs.ProbeFile.{readStep, readStepCount, readSteps}
+use Rattle.probefile.specs.Probe.{Step}
+use Rattle.probefile.specs.ProbeFile.{readStep, readStepCount, readSteps}
 use Rattle.cases.specs.Sites.{count, weight, steps, variable, target, Site, field, falling, end, Among, OperatorSites, HeadSites}
 
 -- ---- variables along edges, in the diagram with these nodes of a task with these domain sizes

@@ -5,7 +5,7 @@ use lib.ListN.{length, replicate}
 use Rattle.facts.specs.Lists.{total}
 use Rattle.facts.specs.Partial.{empty}
 use Rattle.taskfile.specs.Task.{Edge, Node, Action, Task}
-use Rattle.probe.specs.Probe.{Step, Probe}
+use Rattle.probefile.specs.Probe.{Step, Probe}
 use Rattle.compilation.specs.Extend.{extend, clear}
 
 -- f at each element and its number, the first one's being k; what it gives for each straight after the last one's

@@ -19,9 +19,9 @@ use Rattle.facts.specs.WellFormed.{Fits, Values, WfPartial}
 use Rattle.taskfile.specs.Task.{Edge, Node, Action, Task, WfTask, Limits, Weights}
 use Rattle.taskfile.specs.TaskFile.{readTask}
 use Rattle.taskfile.specs.TaskReadLaws.{task-wf, task-limits, task-weights}
-use Rattle.probe.specs.Probe.{WfStep, WfProbe}
-use Rattle.probe.specs.ProbeFile.{readProbe, writeProbe}
-use Rattle.probe.specs.ProbeLaws.{read-written}
+use Rattle.probefile.specs.Probe.{WfStep, WfProbe}
+use Rattle.probefile.specs.ProbeFile.{readProbe, writeProbe}
+use Rattle.probefile.specs.ProbeLaws.{read-written}
 use Rattle.compilation.specs.Extend.{extend, clear}
 use Rattle.compilation.specs.Compile.{flat, variables, marker, startStep, edgeStep, endStep, nodeSteps, actionSteps, stepsOf, markerSize, probeOf}
 use Rattle.compilation.specs.ExtendLaws.{below-empty, below-more, above-extend, below-extend, extend-bit}

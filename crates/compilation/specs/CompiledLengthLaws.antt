@@ -16,8 +16,8 @@ use Rattle.taskfile.specs.Task.{Edge, Node, Action, Task, WfAction, WfTask, Lim
 use Rattle.taskfile.specs.TaskFile.{readTask}
 use Rattle.taskfile.specs.DiagramReadLaws.{Small}
 use Rattle.taskfile.specs.TaskReadLaws.{task-wf, task-limits}
-use Rattle.probe.specs.Probe.{Step, Probe}
-use Rattle.probe.specs.ProbeFile.{writeStep, writeProbe}
+use Rattle.probefile.specs.Probe.{Step, Probe}
+use Rattle.probefile.specs.ProbeFile.{writeStep, writeProbe}
 use Rattle.compilation.specs.Extend.{extend, clear}
 use Rattle.compilation.specs.Compile.{mapFrom, flat, variables, startStep, edgeStep, endStep, nodeSteps, actionSteps, stepsOf, edgeCount, probeOf}
 use Rattle.compilation.specs.StepLaws.{at-all, total-append, action-edges}

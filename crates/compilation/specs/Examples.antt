@@ -5,8 +5,8 @@ use lib.ListN.{length}
 use Rattle.facts.specs.Partial.{empty, writePartial}
 use Rattle.facts.specs.Fields.{writeOperator, writeHead}
 use Rattle.taskfile.specs.Examples.{P}
-use Rattle.probe.specs.ProbeFile.{writeStep, writeProbe}
-use Rattle.probe.specs.Examples.{P-file, P-probe}
+use Rattle.probefile.specs.ProbeFile.{writeStep, writeProbe}
+use Rattle.probefile.specs.Examples.{P-file, P-probe}
 use Rattle.compilation.specs.Extend.{extend, clear}
 use Rattle.compilation.specs.Compile.{stepsOf, probeOf}
 

@@ -9,3 +9,5 @@ pub mod AskLaws
 pub mod StepLaws
 pub mod CompiledLaws
 pub mod CompiledLengthLaws
+pub mod CompileFile
+pub mod ProgramLaws

@@ -22,15 +22,15 @@ use Rattle.taskfile.specs.WalkInPlace.{nodeCount}
 use Rattle.taskfile.specs.WalkInPlaceLaws.{count-is}
 use Rattle.taskfile.specs.TaskReadLaws.{task-wf}
 use Rattle.taskfile.specs.AnswerLaws.{there as task-there, starts, starts-count}
-use Rattle.probe.specs.Probe.{Step}
-use Rattle.probe.specs.ProbeFile.{writeStep, writeProbe}
+use Rattle.probefile.specs.Probe.{Step}
+use Rattle.probefile.specs.ProbeFile.{writeStep, writeProbe}
 use Rattle.compilation.specs.Compile.{flat, variables, actionSteps, stepsOf, markerSize, probeOf}
 use Rattle.compilation.specs.CompiledLaws.{allSizes, sizes-length}
 use Rattle.compilation.specs.CompiledLengthLaws.{stepBytes, probe-written, clear-length}
-use Rattle.compile.specs.HeadInPlace.{markersIn, headIn}
+use Rattle.probe_writer.specs.HeadInPlace.{markersIn, headIn}
 use Rattle.taskfile.specs.PartsInPlace.{actionsIn}
 use Rattle.taskfile.specs.PartsInPlaceLaws.{located, actions-in-place}
-use Rattle.compile.specs.CompileFile.{compileFile, compiledBuffer}
+use Rattle.compilation.specs.CompileFile.{compileFile, compiledBuffer}
 
 -- ---- the file of a task's probe
 

@@ -1,25 +1,13 @@
 // The probe file of a task: written into the caller's buffer.
-mod action;
-pub mod count;
-mod head;
-mod length;
-mod put;
-mod step;
-
+use compilation::Compiled;
 use facts::Refusal;
-use length::extent_of;
+use probe_writer::length::extent_of;
 use taskfile::Counted;
 use taskfile::Task;
 ghost use mathlib.Core.Path.{_≡_};
 ghost use lib.ListN.{length};
 ghost use Rattle.taskfile.specs.Index.{indexOf, Ready};
-ghost use Rattle.compile.specs.CompileFile.{compileFile, compiledBuffer, compiledAnswer};
-
-// The length of the file that was written, or the refusal.
-pub enum Compiled {
-    Length(usize),
-    Refused(Refusal),
-}
+ghost use Rattle.compilation.specs.CompileFile.{compileFile, compiledBuffer, compiledAnswer};
 
 // Writes the probe file of a task: the task file's refusals, then 7 where the buffer is too short; a refusal changes no byte.
 pub fn compile(file: &[u8], out: &mut [u8]) -> Compiled
@@ -27,7 +15,7 @@ pub fn compile(file: &[u8], out: &mut [u8]) -> Compiled
     ensures { λ r. ⌜ now (out .exit) ≡ compiledBuffer (now (file .entry)) (now (out .entry)) ⌝ }
 {
     let mut row = [0; Task::ROW];
-    match taskfile::index_in(file, &mut row) {
+    match index::index_in(file, &mut row) {
         Counted::Refused(why) => Compiled::Refused(why),
         Counted::Actions(variables, actions) => { compile_in(file, variables, actions, &row, out) }
     }
@@ -54,12 +42,12 @@ fn compile_in(
     let effect_at = &starts[Task::EFFECTS..Task::INCOMING];
     let incoming_at = &starts[Task::INCOMING..Task::FIRSTS];
     let extent = extent_of(file, sizes, action_at, incoming_at, firsts, nodes);
-    let needed = head::head_length(file, variables, actions) + extent.bytes;
+    let needed = probe_writer::head::head_length(file, variables, actions) + extent.bytes;
     if out.len() < needed {
         return Compiled::Refused(Refusal::Short(needed));
     }
-    let at = head::put_head(file, variables, action_at, incoming_at, extent.steps, out);
-    let written = action::put_actions(
+    let at = probe_writer::head::put_head(file, variables, action_at, incoming_at, extent.steps, out);
+    let written = probe_writer::action::put_actions(
         file,
         sizes,
         action_at,

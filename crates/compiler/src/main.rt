@@ -1,5 +1,5 @@
 // The compiling program: a task file on standard input; its probe file, or the refusal, on standard output.
-use compile::Compiled;
+use compilation::Compiled;
 
 // One byte more than the longest task file has: what follows cannot change the answer.
 const INPUT: usize = 3827;

@@ -1,21 +1,20 @@
 // A task in words, from the bytes of an accepted file.
-use crate::words::put_numbered;
-use crate::words::put_partial;
 use facts::number::byte_at;
 use facts::number::offset_at;
 use facts::number::offset_within;
-use taskfile::walk::diagram_at;
-use taskfile::walk::edge_for;
-use taskfile::walk::effect_at;
 use text::append::append;
+use walk::diagram_at;
+use walk::edge_for;
+use walk::effect_at;
+use words::words::put_numbered;
+use words::words::put_partial;
 ghost use Prim.Native.Nat.{_+_};
-ghost use lib.ListN.{length, getD, drop};
+ghost use lib.ListN.{length, getD};
 ghost use Rattle.facts.specs.Partial.{partialAt, pastPartial};
-ghost use Rattle.taskfile.specs.Task.{Edge};
 ghost use Rattle.taskfile.specs.PartsInPlace.{nodeIn, nodesIn, actionIn};
 ghost use Rattle.text.specs.Append.{Adds};
-ghost use Rattle.describe.specs.Show.{variableText, targetText, edgeText, nodeText, statesText, costText, actionText};
-ghost use Rattle.describe.specs.Rows.{rowFrom, edgeFor, nodeFor, actionFor};
+ghost use Rattle.words.specs.Show.{variableText, targetText, edgeText, nodeText, statesText, costText, actionText};
+ghost use Rattle.words.specs.Rows.{rowFrom, edgeFor, nodeFor, actionFor};
 
 // A variable: how many values it has, and its initial one.
 fn put_variable(out: &mut [u8], at: usize, v: usize, size: u8, value: u8) -> usize
@@ -51,7 +50,7 @@ fn put_target(out: &mut [u8], at: usize, m: usize, target: usize) -> usize
 }
 
 // An edge, for the value d.
-fn put_edge(out: &mut [u8], at: usize, m: usize, d: u8, target: usize, weight: u32) -> usize
+pub fn put_edge(out: &mut [u8], at: usize, m: usize, d: u8, target: usize, weight: u32) -> usize
     ensures { λ r. ⌜ Adds (edgeText m d (record { target = target; weight = weight })) (now (out .entry)) (now (out .exit)) at r ⌝ }
 {
     let value = put_numbered(out, at, b"    value ", d as u64);
@@ -145,7 +144,7 @@ fn put_cost(
 }
 
 // Both, of the action whose own nodes begin at the offsets `nodes`.
-fn put_action(
+pub fn put_action(
     out: &mut [u8],
     at: usize,
     file: &[u8],

@@ -1,10 +1,8 @@
 // The numbers of the additive heuristic, document 01's estimate, and the array that has one for every fact. What rounds over them come to is in specs/.
-mod inside;
-pub mod offers;
 pub mod ranks;
 
+use crate::ranks::rank;
 use facts::Refusal;
-use ranks::rank;
 ghost use mathlib.Core.Path.{_≡_};
 ghost use Rattle.estimate.specs.Number.{number, sum, lesser};
 ghost use Rattle.estimate.specs.Facts.{HasNumbers, startNumber};

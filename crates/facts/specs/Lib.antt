@@ -26,5 +26,6 @@ pub mod HeadLaws
 pub mod FrontLaws
 pub mod StateLaws
 pub mod WriteLaws
+pub mod WriteRowLaws
 pub mod RunLaws
 pub mod ReadBack

@@ -1,8 +1,5 @@
 // What task files and probe files share, the lowest layer: refusals, numbers and partial states in place, and states.
-pub mod head;
 pub mod number;
-pub mod partial;
-pub mod state;
 pub mod write;
 
 ghost use mathlib.Core.Path.{_≡_};

@@ -4,11 +4,11 @@ mod pack;
 ghost use mathlib.Core.Path.{_≡_};
 ghost use lib.ListN.{length};
 ghost use Rattle.taskfile.specs.TaskFile.{checkTask, costTask, runTask};
-ghost use Rattle.task.specs.RelaxedTask.{relaxedTask};
-ghost use Rattle.task.specs.EstimateTask.{estimateTask};
-ghost use Rattle.probe.specs.ProbeFile.{checkProbe, runProbe};
-ghost use Rattle.probe.specs.Estimate.{estimateProbe};
-ghost use Rattle.compile.specs.CompileFile.{compileFile, compiledBuffer};
+ghost use Rattle.relaxation.specs.RelaxedTask.{relaxedTask};
+ghost use Rattle.relaxation.specs.EstimateTask.{estimateTask};
+ghost use Rattle.probefile.specs.ProbeFile.{checkProbe, runProbe};
+ghost use Rattle.probefile.specs.Estimate.{estimateProbe};
+ghost use Rattle.compilation.specs.CompileFile.{compileFile, compiledBuffer};
 ghost use Rattle.carry.specs.CarryFile.{expanded, contracted, answerIn, bufferIn};
 ghost use Rattle.jafrelin.specs.Packing.{packedCheck, packedSum, packedLength, packedList, packedEstimate};
 
@@ -41,7 +41,7 @@ pub extern "C" fn jafrelin_cost(file: &[u8], action: u64, state: &[u8]) -> u64
 pub extern "C" fn jafrelin_relaxed_cost(file: &[u8], action: u64, sets: &[u8]) -> u64
     ensures { λ r. ⌜ r ≡ packedSum (relaxedTask (now (file .entry)) action (now (sets .entry))) ⌝ }
 {
-    pack::costed(task::relaxed_cost(file, action as usize, sets))
+    pack::costed(task_relaxed::relaxed_cost(file, action as usize, sets))
 }
 
 // The sum of a list of actions.
@@ -65,7 +65,7 @@ pub extern "C" fn jafrelin_run_probe(file: &[u8], list: &[u16]) -> u64
 pub extern "C" fn jafrelin_estimate_task(file: &[u8], state: &[u8]) -> u64
     ensures { λ r. ⌜ r ≡ packedEstimate (estimateTask (now (file .entry)) (now (state .entry))) ⌝ }
 {
-    pack::estimated(task::estimate(file, state))
+    pack::estimated(task_estimate::estimate(file, state))
 }
 
 // The additive estimate of a probe file from a state.
@@ -73,7 +73,7 @@ pub extern "C" fn jafrelin_estimate_task(file: &[u8], state: &[u8]) -> u64
 pub extern "C" fn jafrelin_estimate_probe(file: &[u8], state: &[u8]) -> u64
     ensures { λ r. ⌜ r ≡ packedEstimate (estimateProbe (now (file .entry)) (now (state .entry))) ⌝ }
 {
-    pack::estimated(probe::estimate(file, state))
+    pack::estimated(probe_estimate::estimate(file, state))
 }
 
 // The probe file of a task, written into a buffer.
@@ -91,7 +91,7 @@ pub extern "C" fn jafrelin_expand(file: &[u8], list: &[u16], out: &mut [u16]) ->
     ensures { λ r. ⌜ r ≡ packedList (answerIn (length (now (out .entry))) (expanded (now (file .entry)) (now (list .entry)))) ⌝ }
     ensures { λ r. ⌜ now (out .exit) ≡ bufferIn (now (out .entry)) (expanded (now (file .entry)) (now (list .entry))) ⌝ }
 {
-    pack::carried(carry::expand(file, list, out))
+    pack::carried(expand::expand(file, list, out))
 }
 
 // The list of actions that a probe list comes from, written into a buffer.
@@ -100,5 +100,5 @@ pub extern "C" fn jafrelin_contract(file: &[u8], list: &[u16], out: &mut [u16]) 
     ensures { λ r. ⌜ r ≡ packedList (answerIn (length (now (out .entry))) (contracted (now (file .entry)) (now (list .entry)))) ⌝ }
     ensures { λ r. ⌜ now (out .exit) ≡ bufferIn (now (out .entry)) (contracted (now (file .entry)) (now (list .entry))) ⌝ }
 {
-    pack::carried(carry::contract(file, list, out))
+    pack::carried(contract::contract(file, list, out))
 }

@@ -1,19 +1,19 @@
 // Answers packed into 64 bits.
 use carry::Carried;
-use compile::Compiled;
+use compilation::Compiled;
 use estimate::Est;
 use estimate::Estimated;
 use facts::Checked;
 use facts::Ran;
 use facts::Refusal;
-use task::Costed;
+use taskfile::Costed;
 ghost use mathlib.Core.Path.{_≡_};
 ghost use Rattle.facts.specs.Refusal.{number, place};
 ghost use Rattle.facts.specs.Answers.{checkedAnswer, ranAnswer};
 ghost use Rattle.estimate.specs.Number.{number as estNumber};
 ghost use Rattle.estimate.specs.Answers.{estimatedAnswer};
-ghost use Rattle.task.specs.Answers.{costedAnswer};
-ghost use Rattle.compile.specs.CompileFile.{compiledAnswer};
+ghost use Rattle.taskfile.specs.Answers.{costedAnswer};
+ghost use Rattle.compilation.specs.CompileFile.{compiledAnswer};
 ghost use Rattle.carry.specs.Answers.{carriedAnswer};
 ghost use Rattle.jafrelin.specs.Packing.{packed, packedRefusal, packedCheck, packedSum, packedLength, packedList, packedNumber, packedEstimate};
 

@@ -12,7 +12,7 @@ use Rattle.facts.specs.Run.{Reaches, ends, steps}
 use Rattle.facts.specs.RunLaws.{attempt-next}
 use Rattle.taskfile.specs.Task.{Node, Action, Task, edgeAt, cost, actionMove, Plan, WfTask}
 use Rattle.taskfile.specs.TaskLaws.{move-at}
-use Rattle.probe.specs.Probe.{ProbePlan}
+use Rattle.probefile.specs.Probe.{ProbePlan}
 use Rattle.compilation.specs.Compile.{probeOf}
 use Rattle.plans.specs.Carry.{firstStep, expandFrom, expand}
 use Rattle.plans.specs.RunLaws.{pay, reaches-step, reaches-end}

@@ -5,7 +5,7 @@ use Rattle.facts.specs.Read.{accepted, refused}
 use Rattle.facts.specs.Run.{runFrom}
 use Rattle.taskfile.specs.Task.{walkFrom, walk, actionMove, taskSum}
 use Rattle.taskfile.specs.Examples.{P}
-use Rattle.probe.specs.Probe.{stepMove, probeSum}
+use Rattle.probefile.specs.Probe.{stepMove, probeSum}
 use Rattle.compilation.specs.Compile.{stepsOf, probeOf}
 use Rattle.plans.specs.Carry.{expand, contract}
 

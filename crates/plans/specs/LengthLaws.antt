@@ -15,7 +15,7 @@ use Rattle.facts.specs.PartialLaws.{apply-inside}
 use Rattle.facts.specs.State.{Inside}
 use Rattle.taskfile.specs.Task.{Node, Action, Task, edgeAt, walkFrom, walk, maxList, maxVariables, WfAction, WfTask, Limits}
 use Rattle.taskfile.specs.WalkLaws.{passed-most}
-use Rattle.probe.specs.Probe.{maxList as maxProbeList}
+use Rattle.probefile.specs.Probe.{maxList as maxProbeList}
 use Rattle.compilation.specs.Compile.{edgeCount}
 use Rattle.plans.specs.Carry.{firstStep, pathSteps, actionList, expandFrom, expand}
 

@@ -15,8 +15,8 @@ use Rattle.facts.specs.Run.{Move, next}
 use Rattle.facts.specs.RunLaws.{attempt-next}
 use Rattle.taskfile.specs.Task.{Edge, Node, Action, Task, edgeAt}
 use Rattle.taskfile.specs.WalkLaws.{edge-there}
-use Rattle.probe.specs.Probe.{Step, stepMove}
-use Rattle.probe.specs.ProbeLaws.{move-at}
+use Rattle.probefile.specs.Probe.{Step, stepMove}
+use Rattle.probefile.specs.ProbeLaws.{move-at}
 use Rattle.compilation.specs.ExtendLaws.{and-true, allZero}
 use Rattle.compilation.specs.Compile.{variables, edgeStep, endStep, stepsOf, probeOf}
 use Rattle.plans.specs.Carry.{firstStep}

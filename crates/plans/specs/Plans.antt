@@ -4,7 +4,7 @@ use mathlib.Core.Logic.{_↔_}
 use Prim.Native.Nat.{ℕ, _≤_}
 use mathlib.Core.List.{List}
 use Rattle.taskfile.specs.Task.{Task, Plan, WfTask}
-use Rattle.probe.specs.Probe.{ProbePlan}
+use Rattle.probefile.specs.Probe.{ProbePlan}
 use Rattle.compilation.specs.Compile.{probeOf}
 use Rattle.plans.specs.Carry.{expand, contract}
 use Rattle.plans.specs.Forward.{forward}

@@ -11,7 +11,7 @@ use Rattle.facts.specs.Partial.{Partial, holds, apply}
 use Rattle.facts.specs.Run.{Move, next, blocked, attempt, Reaches, ends, steps}
 use Rattle.facts.specs.RunLaws.{attempt-next, attempt-blocked, not-blocked}
 use Rattle.taskfile.specs.Task.{Action, cost, perform as performAction, actionMove}
-use Rattle.probe.specs.Probe.{Step, perform as performStep, stepMove}
+use Rattle.probefile.specs.Probe.{Step, perform as performStep, stepMove}
 
 -- what applied in the state s, with its effect and cost
 pub record Applied (pre eff : Partial) (cost : ℕ) (s s′ : List ℕ) (c : ℕ) : Type 0 where

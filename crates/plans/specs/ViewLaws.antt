@@ -8,7 +8,7 @@ use lib.ListN.{take}
 use Rattle.facts.specs.Lists.{total, At, here, there}
 use Rattle.facts.specs.ListLaws.{at-none}
 use Rattle.taskfile.specs.Task.{Edge, Node, Action, Task}
-use Rattle.probe.specs.Probe.{Step}
+use Rattle.probefile.specs.Probe.{Step}
 use Rattle.compilation.specs.Compile.{flat, variables, startStep, edgeStep, endStep, nodeSteps, actionSteps, stepsOf, edgeCount, stepCount}
 use Rattle.compilation.specs.StepLaws.{node-length, nodes-length, action-length}
 use Rattle.plans.specs.Carry.{firstStep}

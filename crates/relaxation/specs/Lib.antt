@@ -22,3 +22,8 @@ pub mod LeastCostLaws
 pub mod EstimateRounds
 pub mod EstimateInPlaceLaws
 pub mod EstimateLaws
+pub mod RelaxedTask
+pub mod EstimateTask
+pub mod FileExamples
+pub mod RelaxedTaskLaws
+pub mod EstimateTaskLaws

@@ -9,7 +9,7 @@ use Rattle.facts.specs.declared.Refusal.{Refusal}
 use Rattle.facts.specs.declared.Refusal.the-variants.{Ends, Trailing, Range, Outside, Stray, Diagram, Short, Long, Blocked, Unmet, Missing, Width}
 use Rattle.estimate.specs.declared.Est.{Est}
 use Rattle.estimate.specs.declared.Est.the-variants.{Never, Over, Exact}
-use Rattle.probe.specs.Probe.{maxList}
+use Rattle.probefile.specs.Probe.{maxList}
 use Rattle.text.specs.Text.{decimal}
 use Rattle.text.specs.Append.{bytes}
 use Rattle.report.specs.declared.Subject.{Subject}

@@ -2,7 +2,7 @@
 use Prim.Native.Nat.{ℕ}
 use mathlib.Core.Path.{_≡_}
 use borrow.Author.Tests.{eq-eqb, ne-eqb}
-use Rattle.probe.specs.Probe.{maxList}
+use Rattle.probefile.specs.Probe.{maxList}
 use Rattle.report.specs.declared.Subject.the-variants.{Contracted}
 use Rattle.report.specs.Report.{around, limitText, longText}
 

@@ -4,7 +4,7 @@ use mathlib.Core.Path.{_≡_, refl, sym, ap, ap₂, _∙_}
 use mathlib.Core.List.{List, [], _∷_, _++_, map}
 use lib.ListN.{length, length-map}
 use Rattle.taskfile.specs.Task.{Edge, Node, Action, Task}
-use Rattle.probe.specs.Probe.{Step}
+use Rattle.probefile.specs.Probe.{Step}
 use Rattle.compilation.specs.Compile.{mapFrom, flat, variables, edgeStep, nodeSteps, actionSteps, endStep, stepsOf, probeOf}
 use Rattle.steps.specs.Steps.{node, end, Named, nodeNames, actionNames, namesOf}
 

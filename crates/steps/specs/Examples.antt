@@ -4,7 +4,7 @@ use mathlib.Core.List.{[], _∷_}
 use Rattle.facts.specs.Read.{refused}
 use Rattle.text.specs.Text.{decimal}
 use Rattle.text.specs.Append.{bytes}
-use Rattle.describe.specs.Examples.{taskP}
+use Rattle.words.specs.Examples.{taskP}
 use Rattle.steps.specs.Steps.{namesOf, linesFrom, checkSteps}
 
 lines : linesFrom (namesOf taskP) 0 (0 ∷ 1 ∷ 3 ∷ []) ≡ bytes "0 start of action 0: cost 3, sum 3\n1 action 0, node 1 at variable 0 = 0: cost 5, sum 8\n3 end of action 0: cost 0, sum 8\n"

@@ -4,7 +4,7 @@ use mathlib.Core.List.{List}
 use Rattle.facts.specs.Read.{Read, accepted, _>>=_}
 use Rattle.facts.specs.Run.{atMost}
 use Rattle.taskfile.specs.TaskFile.{readTask}
-use Rattle.probe.specs.Probe.{maxList}
+use Rattle.probefile.specs.Probe.{maxList}
 use Rattle.steps.specs.Steps.{namesOf, checkSteps, linesFrom}
 
 -- the file's refusals, 8 for a list over its limit, then 11 at the index of a number that no step has

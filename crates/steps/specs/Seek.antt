@@ -2,7 +2,7 @@
 use Prim.Native.Nat.{ℕ, zero, suc}
 use mathlib.Core.List.{List, [], _∷_}
 use lib.ListN.{length}
-use Rattle.describe.specs.Rows.{rowFrom, actionFor}
+use Rattle.words.specs.Rows.{rowFrom, actionFor}
 use Rattle.steps.specs.declared.find.Name.{Name}
 use Rattle.steps.specs.declared.find.Name.the-variants.{Start, Node, End}
 use Rattle.steps.specs.declared.find.Sought.{Sought}

@@ -12,8 +12,8 @@ use Rattle.taskfile.specs.TaskFile.{edgeBytes}
 use Rattle.taskfile.specs.WalkInPlace.{incomingPlace, nodeCount}
 use Rattle.taskfile.specs.PartsInPlace.{edgeIn, edgesIn, nodeIn, nodesIn, actionIn}
 use Rattle.compilation.specs.Compile.{mapFrom, flat}
-use Rattle.describe.specs.Rows.{rowFrom, nodeFor, actionFor}
-use Rattle.describe.specs.RowLaws.{nodes-row}
+use Rattle.words.specs.Rows.{rowFrom, nodeFor, actionFor}
+use Rattle.words.specs.RowLaws.{nodes-row}
 use Rattle.steps.specs.Steps.{start, node, end, Named, nodeNames, actionNames}
 use Rattle.steps.specs.Seek.{Place, found, past, seek, namesIn}
 

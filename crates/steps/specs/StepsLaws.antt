@@ -16,8 +16,8 @@ use Rattle.taskfile.specs.Index.{Index, Ready}
 use Rattle.taskfile.specs.AnswerLaws.{there}
 use Rattle.text.specs.Append.{Adds}
 use Rattle.text.specs.AppendLaws.{Adding, adding-start, adding-more, adding-end}
-use Rattle.probe.specs.Probe.{maxList}
-use Rattle.describe.specs.DescribeLaws.{actions-text}
+use Rattle.probefile.specs.Probe.{maxList}
+use Rattle.words.specs.DescribeLaws.{actions-text}
 use Rattle.steps.specs.Steps.{Named, actionNames, namesOf, lineText, costAt, entryText, linesFrom, checkSteps}
 use Rattle.steps.specs.NamedFile.{named}
 use Rattle.steps.specs.Seek.{found, past, seek, namesIn}

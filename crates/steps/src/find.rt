@@ -2,12 +2,12 @@
 use facts::number::byte_at;
 use facts::number::offset_at;
 use facts::number::offset_within;
-use taskfile::walk::diagram_at;
-use taskfile::walk::edge_for;
+use walk::diagram_at;
+use walk::edge_for;
 ghost use mathlib.Core.Path.{_≡_};
 ghost use Prim.Native.Nat.{_+_};
 ghost use Rattle.taskfile.specs.PartsInPlace.{nodeIn, actionIn};
-ghost use Rattle.describe.specs.Rows.{rowFrom, nodeFor};
+ghost use Rattle.words.specs.Rows.{rowFrom, nodeFor};
 ghost use Rattle.steps.specs.Steps.{nodeNames, actionNames};
 ghost use Rattle.steps.specs.Seek.{seek, soughtAnswer, namesIn};
 

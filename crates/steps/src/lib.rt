@@ -2,17 +2,17 @@
 mod find;
 mod lines;
 
-use describe::Described;
+use words::Described;
 use facts::Checked;
 use facts::Refusal;
-use probe::Probe;
+use probefile::Probe;
 use taskfile::Counted;
 use taskfile::Task;
 ghost use mathlib.Core.Path.{_≡_};
 ghost use lib.ListN.{length};
 ghost use Rattle.taskfile.specs.Index.{indexOf, Ready};
-ghost use Rattle.describe.specs.Answers.{describedAnswer};
-ghost use Rattle.describe.specs.DescribeFile.{lengthIn, textIn};
+ghost use Rattle.words.specs.Answers.{describedAnswer};
+ghost use Rattle.words.specs.DescribeFile.{lengthIn, textIn};
 ghost use Rattle.steps.specs.NamedFile.{named};
 
 // The steps of a list, a line each: the task file's refusals, then 8, then 11 at the first index that has no step; a refusal changes no byte.
@@ -21,7 +21,7 @@ pub fn name_steps(file: &[u8], list: &[u16], out: &mut [u8]) -> Described
     ensures { λ r. ⌜ now (out .exit) ≡ textIn (now (out .entry)) (named (now (file .entry)) (now (list .entry))) ⌝ }
 {
     let mut row = [0; Task::ROW];
-    match taskfile::index_in(file, &mut row) {
+    match index::index_in(file, &mut row) {
         Counted::Refused(why) => Described::Refused(why),
         Counted::Actions(variables, actions) => {
             name_in(file, variables, actions, &row, list, out)

@@ -2,7 +2,7 @@
 use crate::find::Name;
 use crate::find::Sought;
 use crate::find::find_step;
-use describe::words::put_numbered;
+use words::words::put_numbered;
 use facts::Checked;
 use facts::Refusal;
 use text::append::append;
@@ -11,7 +11,7 @@ ghost use mathlib.Core.Path.{_≡_};
 ghost use Prim.Native.Nat.{_+_, _*_, _≤_};
 ghost use lib.ListN.{length};
 ghost use Rattle.facts.specs.Answers.{checkedAnswer};
-ghost use Rattle.probe.specs.Probe.{maxList};
+ghost use Rattle.probefile.specs.Probe.{maxList};
 ghost use Rattle.text.specs.Append.{Adds};
 ghost use Rattle.steps.specs.Steps.{node, nameText, lineText, costAt, entryText, linesFrom, checkSteps};
 ghost use Rattle.steps.specs.Seek.{nameOf, namesIn};

@@ -7,7 +7,9 @@ use Rattle.taskfile.specs.declared.Drawn.{Drawn}
 use Rattle.taskfile.specs.declared.Drawn.the-variants.{Next as NextField, Refused as NotDrawn}
 use Rattle.taskfile.specs.declared.Counted.{Counted}
 use Rattle.taskfile.specs.declared.Counted.the-variants.{Actions, Refused as NotCounted}
-use Rattle.taskfile.specs.declared.action.Run.{Run}
+use Rattle.taskfile.specs.declared.Run.{Run}
+use Rattle.taskfile.specs.declared.Costed.{Costed}
+use Rattle.taskfile.specs.declared.Costed.the-variants.{Cost, Refused as NotCosted}
 
 -- the offset past a diagram or an action, and how many nodes it has
 abbrev pub drawnAnswer : Drawn → Read (ℕ × ℕ)
@@ -22,3 +24,8 @@ countedAnswer (NotCounted why) = refused (number why) (place why)
 -- how many nodes the walks of a run pass, where it has a sum
 abbrev pub passedAnswer : Run → Read ℕ
 passedAnswer r = withValue (λ sum. r .passed) (ranAnswer (r .answer))
+
+-- the cost of an action
+abbrev pub costedAnswer : Costed → Read ℕ
+costedAnswer (Cost cost) = accepted cost
+costedAnswer (NotCosted why) = refused (number why) (place why)

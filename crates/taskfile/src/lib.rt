@@ -1,14 +1,6 @@
-// Task files in place: checked and indexed in one pass; walks, actions and lists of them by the index.
-pub mod action;
-mod diagram;
-mod index;
-pub mod walk;
-
+// Task files: what they are, their limits, and what the row of an index has.
+use facts::Ran;
 use facts::Refusal;
-ghost use mathlib.Core.Path.{_≡_};
-ghost use lib.ListN.{length};
-ghost use Rattle.taskfile.specs.Answers.{countedAnswer};
-ghost use Rattle.taskfile.specs.Index.{indexAnswer, Noted};
 
 // How many variables and actions a task has. What else its index has stands in a row that the caller lends: where each action starts, and then where its effect and its incoming weight stand; which of all
 // nodes is its first, where each node starts and which variable it tests.
@@ -56,13 +48,17 @@ pub enum Counted {
     Refused(Refusal),
 }
 
-// The index of a file, noted in a lent row: how many variables and actions there are, or the refusal; 7 with the length needed for a row that is too short.
-pub fn index_in(file: &[u8], row: &mut [usize]) -> Counted
-    ensures { λ r. ⌜ countedAnswer r ≡ indexAnswer (now (file .entry)) (length (now (row .entry))) ⌝ }
-    ensures { λ r. ⌜ Noted (now (file .entry)) (countedAnswer r) (now (row .exit)) ⌝ }
-{
-    if row.len() < Task::ROW {
-        return Counted::Refused(Refusal::Short(Task::ROW));
-    }
-    index::index_into(file, row)
+// What an action costs.
+pub enum Costed {
+    Cost(u32),
+    Refused(Refusal),
 }
+
+// What a run answers, and how many nodes the walks of its actions pass.
+pub struct Run {
+    pub answer: Ran,
+    pub passed: usize,
+}
+
+// A table by number has an entry for each node and for the terminal, and one at 0.
+pub const NUMBERS: usize = Task::MAX_NODES + 2;

@@ -1,7 +1,5 @@
 // Numbers as text: decimal, separated by blanks. Read with a bound, and printed so that they read back as themselves.
 pub mod append;
-pub mod read;
-mod scan;
 
 // How many numbers a text has; or the offset of a byte that is neither a digit nor a blank; or the offset at which a number above the bound begins.
 pub enum Found {

@@ -13,13 +13,13 @@ use crate::output::within;
 use crate::output::within16;
 use crate::words::Command;
 use carry::Carried;
-use compile::Compiled;
+use compilation::Compiled;
 use estimate::Estimated;
 use facts::Checked;
 use facts::Ran;
-use probe::Probe;
+use probefile::Probe;
 use report::Subject;
-use task::Costed;
+use taskfile::Costed;
 
 // The most bytes that a written probe file has.
 const WRITTEN: usize = 13846;
@@ -87,14 +87,14 @@ pub fn on_list(command: Command, file: &[u8], next: usize, explain: bool) {
 // The probe list that comes from a plan, and its sum.
 fn expand(file: &[u8], list: &[u16], explain: bool) {
     let mut out = [0; LIST];
-    let answer = carry::expand(file, list, &mut out);
+    let answer = expand::expand(file, list, &mut out);
     carried(answer, &out, Subject::List, explain);
 }
 
 // The plan that a probe list comes from, and its sum.
 fn contract(file: &[u8], list: &[u16], explain: bool) {
     let mut out = [0; LIST];
-    let answer = carry::contract(file, list, &mut out);
+    let answer = contract::contract(file, list, &mut out);
     carried(answer, &out, Subject::Contracted, explain);
 }
 
@@ -110,12 +110,12 @@ pub fn on_state(question: Question, file: &[u8], next: usize, explain: bool) {
     match question {
         Question::Cost(action) => costed(task::cost(file, action, state), Subject::State, explain),
         Question::Relaxed(action) => costed(
-            task::relaxed_cost(file, action, state),
+            task_relaxed::relaxed_cost(file, action, state),
             Subject::Sets,
             explain,
         ),
-        Question::TaskEstimate => number(task::estimate(file, state), explain),
-        Question::ProbeEstimate => number(probe::estimate(file, state), explain),
+        Question::TaskEstimate => number(task_estimate::estimate(file, state), explain),
+        Question::ProbeEstimate => number(probe_estimate::estimate(file, state), explain),
     }
 }
 

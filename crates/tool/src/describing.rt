@@ -5,7 +5,7 @@ use crate::output::done;
 use crate::output::failed;
 use crate::output::refuse;
 use crate::output::write;
-use describe::Described;
+use words::Described;
 use report::Subject;
 
 // The most bytes of a task in words and of its diagrams, and of the steps of a list: more than any has.
@@ -37,7 +37,7 @@ pub fn draw(file: &[u8], next: usize, explain: bool) {
         return draw_action(file, next, explain);
     }
     let mut text = [0; TASK_TEXT];
-    let answer = describe::draw(file, &mut text);
+    let answer = draw::draw(file, &mut text);
     described(answer, &text, Subject::File, explain);
 }
 
@@ -48,7 +48,7 @@ fn draw_action(file: &[u8], next: usize, explain: bool) {
         return failed();
     }
     let mut text = [0; TASK_TEXT];
-    let answer = describe::draw_action(file, given.length, &mut text);
+    let answer = draw::draw_action(file, given.length, &mut text);
     described(answer, &text, Subject::State, explain);
 }
 

@@ -111,7 +111,7 @@ pub fn read_list(i: usize, list: &mut [u16]) -> Given
     let given = read_text(i, &mut text);
     let n = given.length;
     let found = counted(
-        text::read::numbers16(&text[..n], LIST_NUMBER, list),
+        scan::read::numbers16(&text[..n], LIST_NUMBER, list),
         LIST_NUMBER as u32,
     );
     Given {
@@ -128,7 +128,7 @@ pub fn read_state(i: usize, state: &mut [u8]) -> Given
     let given = read_text(i, &mut text);
     let n = given.length;
     let found = counted(
-        text::read::numbers8(&text[..n], STATE_NUMBER, state),
+        scan::read::numbers8(&text[..n], STATE_NUMBER, state),
         STATE_NUMBER as u32,
     );
     Given {
@@ -153,7 +153,7 @@ fn counted(found: Found, most: u32) -> Given {
 pub fn read_number(i: usize) -> Given {
     let mut word = io::buffer();
     let length = os::arg(i, &mut word);
-    match text::read::number(&word[..length], ARGUMENT) {
+    match scan::read::number(&word[..length], ARGUMENT) {
         One::Number(n) => Given {
             ok: true,
             length: n as usize,

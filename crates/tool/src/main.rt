@@ -5,16 +5,16 @@ mod input;
 mod output;
 mod words;
 
-use commands::Question;
-use commands::is_accepted;
-use commands::on_list;
-use commands::on_state;
-use input::is_probe_name;
-use input::is_word;
-use input::read_file;
-use input::read_number;
-use output::failed;
-use output::usage;
+use crate::commands::Question;
+use crate::commands::is_accepted;
+use crate::commands::on_list;
+use crate::commands::on_state;
+use crate::input::is_probe_name;
+use crate::input::is_word;
+use crate::input::read_file;
+use crate::input::read_number;
+use crate::output::failed;
+use crate::output::usage;
 use words::Command;
 
 // One byte more than the longest file has that is accepted, a probe file.

@@ -70,7 +70,7 @@ pub fn refuse(explain: bool, subject: Subject, why: Refusal) {
     write(libc::STDOUT_FILENO, &line, n);
     if explain {
         let mut sentence = [0; LINE];
-        let m = report::put_explanation(&mut sentence, 0, subject, why);
+        let m = explain::put_explanation(&mut sentence, 0, subject, why);
         write(libc::STDOUT_FILENO, &sentence, m);
     }
     io::write_all(STATUS, b"1");

@@ -10,11 +10,11 @@ use Rattle.facts.specs.Write.{Wrote}
 use Rattle.taskfile.specs.WalkInPlace.{incomingPlace}
 use Rattle.taskfile.specs.TaskReadLaws.{task-wf, task-limits}
 use Rattle.taskfile.specs.AnswerLaws.{There, there, Starts, starts}
-use Rattle.probe.specs.ProbeFile.{writeProbe}
+use Rattle.probefile.specs.ProbeFile.{writeProbe}
 use Rattle.compilation.specs.Compile.{probeOf}
 use Rattle.compilation.specs.StepLaws.{steps-most}
 use Rattle.compilation.specs.CompiledLengthLaws.{compiled-length}
-use Rattle.compile.specs.ExtentLaws.{weighs}
+use Rattle.probe_writer.specs.ExtentLaws.{weighs}
 use Rattle.taskfile.specs.PartsInPlaceLaws.{actions-stood, effects-noted, incoming-noted, goal-stands}
 use Rattle.compile.specs.TaskInPlaceLaws.{steps-in-place, file-length, front-room, front-inside, steps-room, file-wrote, compile-short, compile-wrote}
 use Rattle.taskfile.specs.TaskIndexLaws.{row-long}

@@ -3,8 +3,8 @@ use Prim.Native.Nat.{_≤_}
 use mathlib.Core.Path.{sym, ap, _∙_}
 use native.Mathlib.Omega.{arith}
 use lib.Seq.{length-take-le}
-use Rattle.compile.specs.CompileFile.{compiledAnswer}
-use Rattle.compile.specs.ProgramLaws.{answer-fits}
+use Rattle.compilation.specs.CompileFile.{compiledAnswer}
+use Rattle.compilation.specs.ProgramLaws.{answer-fits}
 use borrow.Author.Needs.{needs}
 use Rattle.compiler.proofs.main.Statement.{statement}
 use Rattle.compiler.proofs.main.Tie as tie

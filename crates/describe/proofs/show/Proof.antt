@@ -3,7 +3,7 @@ use mathlib.Core.Path.{sym, ap, _∙_}
 use denote.Ref.{now}
 use Rattle.taskfile.specs.Answers.{countedAnswer}
 use Rattle.taskfile.specs.TaskIndexLaws.{index-ready, index-refused}
-use Rattle.describe.specs.DescribeLaws.{shown-refused, refused-in}
+use Rattle.words.specs.DescribeLaws.{shown-refused, refused-in}
 use borrow.Author.Needs.{needs}
 use native.Mathlib.Omega.{arith}
 use Rattle.describe.proofs.show.Statement.{statement}

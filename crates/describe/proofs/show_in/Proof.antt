@@ -2,7 +2,7 @@
 use mathlib.Core.Path.{sym}
 use denote.Ref.{now}
 use Rattle.text.specs.AppendLaws.{adds-then, adds-as}
-use Rattle.describe.specs.DescribeLaws.{begins-long, head-fits, sizes-in, init-in, shown-is, task-text, written-in}
+use Rattle.words.specs.DescribeLaws.{begins-long, head-fits, sizes-in, init-in, shown-is, task-text, written-in}
 use Rattle.taskfile.specs.TaskIndexLaws.{row-long}
 use borrow.Author.Needs.{needs}
 use native.Mathlib.Omega.{arith}

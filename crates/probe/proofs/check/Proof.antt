@@ -1,7 +1,7 @@
 -- `probe::check` meets its contract: what is answered is the index without its offsets. Assumes nothing.
 use mathlib.Core.Path.{sym, ap, _∙_}
-use Rattle.probe.specs.Answers.{indexedAnswer}
-use Rattle.probe.specs.IndexLaws.{check-refused, check-accepted}
+use Rattle.probefile.specs.Answers.{indexedAnswer}
+use Rattle.probefile.specs.IndexLaws.{check-refused, check-accepted}
 use borrow.Author.Needs.{needs}
 use Rattle.probe.proofs.check.Statement.{statement}
 use Rattle.probe.proofs.check.Tie as tie

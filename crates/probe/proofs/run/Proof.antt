@@ -5,9 +5,9 @@ use denote.Ref.{now}
 use lib.ListN.{length}
 use lib.Seq.{length-take-le}
 use Rattle.facts.specs.Read.{accepted}
-use Rattle.probe.specs.Answers.{indexedAnswer}
-use Rattle.probe.specs.InPlace.{probeAt}
-use Rattle.probe.specs.IndexLaws.{starts, run-refused, run-long, run-fits}
+use Rattle.probefile.specs.Answers.{indexedAnswer}
+use Rattle.probefile.specs.InPlace.{probeAt}
+use Rattle.probefile.specs.IndexLaws.{starts, run-refused, run-long, run-fits}
 use borrow.Author.Needs.{needs}
 use native.Mathlib.Omega.{arith}
 use Rattle.probe.proofs.run.Statement.{statement}

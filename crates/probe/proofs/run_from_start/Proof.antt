@@ -7,7 +7,7 @@ use lib.ListN.{length, take, drop, replicate, length-take, length-drop, length-a
 use lib.Seq.{length-take-le, take-at}
 use Rattle.facts.specs.Partial.{partialAt}
 use Rattle.facts.specs.Run.{runFrom}
-use Rattle.probe.specs.InPlace.{moveAt}
+use Rattle.probefile.specs.InPlace.{moveAt}
 use Rattle.facts.specs.WriteLaws.{copied}
 use borrow.Author.Needs.{needs}
 use native.Mathlib.Omega.{arith}

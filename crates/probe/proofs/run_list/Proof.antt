@@ -10,7 +10,7 @@ use Rattle.facts.specs.Run.{runFrom}
 use Rattle.facts.specs.RunLaws.{attempt-length, run-missing, run-blocked, run-next, run-unmet, run-met}
 use Rattle.facts.specs.declared.Applied.{Applied}
 use Rattle.facts.specs.Answers.{appliedMove, CostMost}
-use Rattle.probe.specs.InPlace.{moveAt}
+use Rattle.probefile.specs.InPlace.{moveAt}
 use borrow.Author.Needs.{needs}
 use native.Mathlib.Omega.{arith}
 use Rattle.probe.proofs.run_list.Statement.{statement}

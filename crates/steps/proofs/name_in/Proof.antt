@@ -2,7 +2,7 @@
 use mathlib.Core.Path.{sym, ap, _∙_}
 use denote.Ref.{now}
 use Rattle.facts.specs.Answers.{checkedAnswer}
-use Rattle.describe.specs.DescribeLaws.{begins-long, head-fits, sizes-in, refused-in, written-in}
+use Rattle.words.specs.DescribeLaws.{begins-long, head-fits, sizes-in, refused-in, written-in}
 use Rattle.steps.specs.StepsLaws.{names-are, named-long, named-missing, named-is}
 use Rattle.taskfile.specs.TaskIndexLaws.{row-long}
 use borrow.Author.Needs.{needs}

@@ -1,7 +1,7 @@
 -- `describe::task::put_action` meets its contract: its states, and then its cost. Assumes nothing.
 use denote.Ref.{now}
 use Rattle.text.specs.AppendLaws.{adds-then}
-use Rattle.describe.specs.ShowLaws.{cost-as}
+use Rattle.words.specs.ShowLaws.{cost-as}
 use borrow.Author.Needs.{needs}
 use Rattle.describe.proofs.task.put_action.Statement.{statement}
 use Rattle.describe.proofs.task.put_action.Tie as tie

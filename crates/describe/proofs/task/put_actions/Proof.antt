@@ -7,9 +7,9 @@ use denote.Ref.{now}
 use Rattle.taskfile.specs.MoveInPlaceLaws.{own-nodes}
 use Rattle.taskfile.specs.PartsInPlace.{actionIn}
 use Rattle.text.specs.AppendLaws.{adds-as}
-use Rattle.describe.specs.Show.{actionText}
-use Rattle.describe.specs.Rows.{rowFrom, actionFor}
-use Rattle.describe.specs.RowLaws.{Row, row-start, row-more, row-end}
+use Rattle.words.specs.Show.{actionText}
+use Rattle.words.specs.Rows.{rowFrom, actionFor}
+use Rattle.words.specs.RowLaws.{Row, row-start, row-more, row-end}
 use borrow.Author.Needs.{needs}
 use native.Mathlib.Omega.{arith}
 use Rattle.describe.proofs.task.put_actions.Statement.{statement}

@@ -1,8 +1,8 @@
 -- `describe::task::put_cost` meets its contract: one part straight after the other. Assumes nothing.
 use denote.Ref.{now}
 use Rattle.text.specs.AppendLaws.{adds-then, adds-as}
-use Rattle.describe.specs.RowLaws.{two-then}
-use Rattle.describe.specs.ShowLaws.{first-target, nodes-text}
+use Rattle.words.specs.RowLaws.{two-then}
+use Rattle.words.specs.ShowLaws.{first-target, nodes-text}
 use borrow.Author.Needs.{needs}
 use Rattle.describe.proofs.task.put_cost.Statement.{statement}
 use Rattle.describe.proofs.task.put_cost.Tie as tie

@@ -1,6 +1,6 @@
 -- `describe::task::put_edge` meets its contract: one part straight after the other. Assumes nothing.
 use Rattle.text.specs.AppendLaws.{adds-then}
-use Rattle.describe.specs.RowLaws.{two-then}
+use Rattle.words.specs.RowLaws.{two-then}
 use borrow.Author.Needs.{needs}
 use Rattle.describe.proofs.task.put_edge.Statement.{statement}
 use Rattle.describe.proofs.task.put_edge.Tie as tie

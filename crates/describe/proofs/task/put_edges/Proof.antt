@@ -2,10 +2,10 @@
 use Prim.Native.Nat.{ℕ, _-_}
 use mathlib.Core.List.{List}
 use denote.Ref.{now}
-use Rattle.describe.specs.Show.{edgeText}
-use Rattle.describe.specs.ShowLaws.{edge-as}
-use Rattle.describe.specs.Rows.{rowFrom, edgeFor}
-use Rattle.describe.specs.RowLaws.{Row, row-start, row-more, row-end}
+use Rattle.words.specs.Show.{edgeText}
+use Rattle.words.specs.ShowLaws.{edge-as}
+use Rattle.words.specs.Rows.{rowFrom, edgeFor}
+use Rattle.words.specs.RowLaws.{Row, row-start, row-more, row-end}
 use borrow.Author.Needs.{needs}
 use native.Mathlib.Omega.{arith}
 use Rattle.describe.proofs.task.put_edges.Statement.{statement}

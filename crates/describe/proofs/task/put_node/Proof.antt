@@ -1,8 +1,8 @@
 -- `describe::task::put_node` meets its contract: its number, its variable and then its edges. Assumes nothing.
 use denote.Ref.{now}
 use Rattle.text.specs.AppendLaws.{adds-then, adds-as}
-use Rattle.describe.specs.Show.{edgeText}
-use Rattle.describe.specs.RowLaws.{two-then, number-as, edges-text}
+use Rattle.words.specs.Show.{edgeText}
+use Rattle.words.specs.RowLaws.{two-then, number-as, edges-text}
 use borrow.Author.Needs.{needs}
 use Rattle.describe.proofs.task.put_node.Statement.{statement}
 use Rattle.describe.proofs.task.put_node.Tie as tie

@@ -5,9 +5,9 @@ use mathlib.Core.List.{List}
 use denote.Ref.{now}
 use Rattle.taskfile.specs.PartsInPlace.{nodeIn}
 use Rattle.text.specs.AppendLaws.{adds-as}
-use Rattle.describe.specs.Show.{nodeText}
-use Rattle.describe.specs.Rows.{rowFrom, nodeFor}
-use Rattle.describe.specs.RowLaws.{Row, row-start, row-more, row-end}
+use Rattle.words.specs.Show.{nodeText}
+use Rattle.words.specs.Rows.{rowFrom, nodeFor}
+use Rattle.words.specs.RowLaws.{Row, row-start, row-more, row-end}
 use borrow.Author.Needs.{needs}
 use native.Mathlib.Omega.{arith}
 use Rattle.describe.proofs.task.put_nodes.Statement.{statement}

@@ -4,8 +4,8 @@ use lib.ListN.{length}
 use denote.Ref.{now}
 use Rattle.facts.specs.InPlaceLaws.{alike-partial}
 use Rattle.text.specs.AppendLaws.{adds-then, adds-as}
-use Rattle.describe.specs.Words.{partialText}
-use Rattle.describe.specs.RowLaws.{two-then}
+use Rattle.words.specs.Words.{partialText}
+use Rattle.words.specs.RowLaws.{two-then}
 use borrow.Author.Needs.{needs}
 use Rattle.describe.proofs.task.put_states.Statement.{statement}
 use Rattle.describe.proofs.task.put_states.Tie as tie

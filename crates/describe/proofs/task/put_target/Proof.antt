@@ -1,6 +1,6 @@
 -- `describe::task::put_target` meets its contract: one test. Assumes nothing.
 use Rattle.text.specs.AppendLaws.{adds-as}
-use Rattle.describe.specs.ShowLaws.{target-node, target-end}
+use Rattle.words.specs.ShowLaws.{target-node, target-end}
 use borrow.Author.Needs.{needs}
 use Rattle.describe.proofs.task.put_target.Statement.{statement}
 use Rattle.describe.proofs.task.put_target.Tie as tie

@@ -1,5 +1,5 @@
 -- `describe::task::put_variable` meets its contract: one part straight after the other. Assumes nothing.
-use Rattle.describe.specs.RowLaws.{two-then}
+use Rattle.words.specs.RowLaws.{two-then}
 use borrow.Author.Needs.{needs}
 use Rattle.describe.proofs.task.put_variable.Statement.{statement}
 use Rattle.describe.proofs.task.put_variable.Tie as tie

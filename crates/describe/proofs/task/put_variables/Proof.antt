@@ -5,9 +5,9 @@ use mathlib.Core.List.{List}
 use lib.ListN.{length, getD}
 use denote.Ref.{now}
 use Rattle.text.specs.AppendLaws.{adds-as}
-use Rattle.describe.specs.Show.{variableText}
-use Rattle.describe.specs.Rows.{rowFrom}
-use Rattle.describe.specs.RowLaws.{Row, row-start, row-more, row-end}
+use Rattle.words.specs.Show.{variableText}
+use Rattle.words.specs.Rows.{rowFrom}
+use Rattle.words.specs.RowLaws.{Row, row-start, row-more, row-end}
 use borrow.Author.Needs.{needs}
 use native.Mathlib.Omega.{arith}
 use Rattle.describe.proofs.task.put_variables.Statement.{statement}

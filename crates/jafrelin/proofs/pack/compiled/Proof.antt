@@ -1,6 +1,6 @@
 -- `jafrelin::pack::compiled` meets its contract: each case is packed as its meaning is. Assumes nothing.
 use mathlib.Core.Path.{sym, ap, _∙_}
-use Rattle.compile.specs.CompileFile.{compiledAnswer}
+use Rattle.compilation.specs.CompileFile.{compiledAnswer}
 use Rattle.jafrelin.specs.Packing.{packedLength}
 use borrow.Author.Needs.{needs}
 use Rattle.jafrelin.proofs.pack.compiled.Statement.{statement}

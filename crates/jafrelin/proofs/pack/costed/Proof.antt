@@ -1,6 +1,6 @@
 -- `jafrelin::pack::costed` meets its contract: each case is packed as its meaning is. Assumes nothing.
 use mathlib.Core.Path.{sym, ap, _∙_}
-use Rattle.task.specs.Answers.{costedAnswer}
+use Rattle.taskfile.specs.Answers.{costedAnswer}
 use Rattle.jafrelin.specs.Packing.{packedSum}
 use borrow.Author.Needs.{needs}
 use Rattle.jafrelin.proofs.pack.costed.Statement.{statement}

@@ -4,7 +4,7 @@ use denote.Ref.{now}
 use Rattle.facts.specs.Answers.{heldAnswer, EndsAlike}
 use Rattle.facts.specs.Partial.{pastPartial}
 use Rattle.facts.specs.Run.{next}
-use Rattle.probe.specs.InPlaceLaws.{performs, performs-not}
+use Rattle.probefile.specs.InPlaceLaws.{performs, performs-not}
 use borrow.Author.Needs.{needs}
 use Rattle.probe.proofs.step.apply_step.Statement.{statement}
 use Rattle.probe.proofs.step.apply_step.Tie as tie

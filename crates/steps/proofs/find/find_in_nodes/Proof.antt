@@ -4,7 +4,7 @@ use mathlib.Core.Path.{_≡_, sym, ap, _∙_}
 use mathlib.Core.List.{List}
 use denote.Ref.{now}
 use Rattle.taskfile.specs.PartsInPlace.{nodeIn}
-use Rattle.describe.specs.Rows.{rowFrom, nodeFor}
+use Rattle.words.specs.Rows.{rowFrom, nodeFor}
 use Rattle.steps.specs.Steps.{Named, nodeNames}
 use Rattle.steps.specs.Seek.{seek, soughtAnswer}
 use Rattle.steps.specs.SeekLaws.{Seeking, seeking-start, seeking-found, seeking-on, seeking-past}

@@ -1,6 +1,6 @@
 -- `steps::lines::put_line` meets its contract: one part straight after the other. Assumes nothing.
 use Rattle.text.specs.AppendLaws.{adds-then}
-use Rattle.describe.specs.RowLaws.{two-then}
+use Rattle.words.specs.RowLaws.{two-then}
 use borrow.Author.Needs.{needs}
 use Rattle.steps.proofs.lines.put_line.Statement.{statement}
 use Rattle.steps.proofs.lines.put_line.Tie as tie

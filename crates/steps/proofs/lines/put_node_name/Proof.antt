@@ -1,5 +1,5 @@
 -- `steps::lines::put_node_name` meets its contract: one part straight after the other. Assumes nothing.
-use Rattle.describe.specs.RowLaws.{two-then}
+use Rattle.words.specs.RowLaws.{two-then}
 use borrow.Author.Needs.{needs}
 use Rattle.steps.proofs.lines.put_node_name.Statement.{statement}
 use Rattle.steps.proofs.lines.put_node_name.Tie as tie

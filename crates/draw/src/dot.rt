@@ -1,0 +1,210 @@
+// Cost diagrams for Graphviz, from the bytes of an accepted file.
+use facts::number::byte_at;
+use facts::number::offset_at;
+use facts::number::offset_within;
+use taskfile::Task;
+use text::append::append;
+use walk::diagram_at;
+use walk::edge_for;
+use words::words::put_numbered;
+ghost use Prim.Native.Nat.{_+_, _-_};
+ghost use Rattle.taskfile.specs.Index.{indexOf, Ready};
+ghost use Rattle.taskfile.specs.PartsInPlace.{nodeIn, actionIn};
+ghost use Rattle.text.specs.Append.{Adds};
+ghost use Rattle.words.specs.Dot.{nodeName, dotEdge, dotNode, dotEntry, dotAction};
+ghost use Rattle.words.specs.Rows.{rowFrom, AddsTwo, edgeFor, nodeFor, actionFor, drawing};
+
+// All actions from number `from` up to `end`, in one drawing, of an accepted file by its index.
+pub fn put_drawing(
+    out: &mut [u8],
+    file: &[u8],
+    variables: usize,
+    actions: usize,
+    row: &[usize],
+    from: usize,
+    end: usize,
+) -> usize
+    requires { ⌜ Ready (now file) (indexOf variables actions (now row)) ⌝ }
+    ensures { λ r. ⌜ Adds (drawing (now (file .entry)) (indexOf variables actions (now (row .entry))) from end) (now (out .entry)) (now (out .exit)) 0 r ⌝ }
+{
+    let starts = &row[..Task::FIRSTS];
+    let firsts = &row[Task::FIRSTS..Task::NODES];
+    let nodes = &row[Task::NODES..Task::ROW];
+    let last = 1 + variables;
+    let sizes = &file[1..last];
+    let action_at = &starts[..actions];
+    let opened = append(out, 0, b"digraph costs {\n");
+    let drawn = put_diagrams(
+        out,
+        opened,
+        file,
+        sizes,
+        action_at,
+        firsts,
+        nodes,
+        from,
+        end,
+    );
+    append(out, drawn, b"}\n")
+}
+
+// The same, without what opens and closes the drawing: `starts` has the offset of each action, `firsts` the index of its first node in `nodes`.
+fn put_diagrams(
+    out: &mut [u8],
+    at: usize,
+    file: &[u8],
+    sizes: &[u8],
+    starts: &[usize],
+    firsts: &[usize],
+    nodes: &[usize],
+    from: usize,
+    end: usize,
+) -> usize
+    ensures { λ r. ⌜ Adds (rowFrom (λ a. dotAction a (actionFor (now (file .entry)) (now (sizes .entry)) (now (starts .entry)) (now (firsts .entry)) (now (nodes .entry)) a)) from (end - from)) (now (out .entry)) (now (out .exit)) at r ⌝ }
+{
+    let mut past = at;
+    let mut a = from;
+    while a < end {
+        let first = offset_within(firsts, a, nodes.len());
+        past = put_diagram(
+            out,
+            past,
+            file,
+            sizes,
+            offset_at(starts, a),
+            &nodes[first..],
+            a,
+        );
+        a += 1;
+    }
+    past
+}
+
+// Action a, at an offset, whose own nodes begin at the offsets `nodes`.
+fn put_diagram(
+    out: &mut [u8],
+    at: usize,
+    file: &[u8],
+    sizes: &[u8],
+    place: usize,
+    nodes: &[usize],
+    a: usize,
+) -> usize
+    ensures { λ r. ⌜ Adds (dotAction a (actionIn (now (file .entry)) (now (sizes .entry)) place (now (nodes .entry)))) (now (out .entry)) (now (out .exit)) at r ⌝ }
+{
+    let diagram = diagram_at(file, place);
+    let entry = put_entry(out, at, a, diagram.incoming);
+    let drawn = put_vertices(out, entry, file, sizes, nodes, diagram.count, a);
+    let terminal = put_name(out, drawn, b"  ", a, 1 + diagram.count);
+    append(out, terminal, b" [shape=box, label=\"end\"];\n")
+}
+
+// The name of action a, and the edge into node 1.
+fn put_entry(out: &mut [u8], at: usize, a: usize, incoming: u32) -> usize
+    ensures { λ r. ⌜ Adds (dotEntry a incoming) (now (out .entry)) (now (out .exit)) at r ⌝ }
+{
+    let name = put_numbered(out, at, b"  a", a as u64);
+    let label = put_numbered(out, name, b" [shape=plaintext, label=\"action ", a as u64);
+    let from = put_numbered(out, label, b"\"];\n  a", a as u64);
+    let to = put_name(out, from, b" -> ", a, 1);
+    let weight = put_numbered(out, to, b" [label=\"+", incoming as u64);
+    append(out, weight, b"\"];\n")
+}
+
+// A label, and node i of action a by its name.
+fn put_name(out: &mut [u8], at: usize, label: &[u8], a: usize, i: usize) -> usize
+    ensures { λ r. ⌜ AddsTwo (now (label .entry)) (nodeName a i) (now (out .entry)) (now (out .exit)) at r ⌝ }
+{
+    let end = append(out, at, label);
+    let action = put_numbered(out, end, b"a", a as u64);
+    put_numbered(out, action, b"n", i as u64)
+}
+
+// The m nodes of action a, which begin at these offsets.
+fn put_vertices(
+    out: &mut [u8],
+    at: usize,
+    file: &[u8],
+    sizes: &[u8],
+    nodes: &[usize],
+    m: usize,
+    a: usize,
+) -> usize
+    ensures { λ r. ⌜ Adds (rowFrom (λ j. dotNode a (1 + j) (nodeFor (now (file .entry)) (now (sizes .entry)) (now (nodes .entry)) j)) 0 m) (now (out .entry)) (now (out .exit)) at r ⌝ }
+{
+    let mut end = at;
+    let mut j: usize = 0;
+    while j < m {
+        end = put_vertex(out, end, file, sizes, offset_at(nodes, j), a, 1 + j);
+        j += 1;
+    }
+    end
+}
+
+// Node i of action a, at an offset: its variable and its edges.
+fn put_vertex(
+    out: &mut [u8],
+    at: usize,
+    file: &[u8],
+    sizes: &[u8],
+    node: usize,
+    a: usize,
+    i: usize,
+) -> usize
+    ensures { λ r. ⌜ Adds (dotNode a i (nodeIn (now (file .entry)) (now (sizes .entry)) node)) (now (out .entry)) (now (out .exit)) at r ⌝ }
+{
+    let variable = byte_at(file, node);
+    let name = put_name(out, at, b"  ", a, i);
+    let label = put_numbered(out, name, b" [label=\"variable ", variable as u64);
+    let line = append(out, label, b"\"];\n");
+    put_arrows(
+        out,
+        line,
+        file,
+        node,
+        byte_at(sizes, variable as usize),
+        a,
+        i,
+    )
+}
+
+// Its edges, one for each of `count` values.
+fn put_arrows(
+    out: &mut [u8],
+    at: usize,
+    file: &[u8],
+    node: usize,
+    count: u8,
+    a: usize,
+    i: usize,
+) -> usize
+    ensures { λ r. ⌜ Adds (rowFrom (λ d. dotEdge a i d (edgeFor (now (file .entry)) node d)) 0 count) (now (out .entry)) (now (out .exit)) at r ⌝ }
+{
+    let mut end = at;
+    let mut d: u8 = 0;
+    while d < count {
+        let edge = edge_for(file, node, d);
+        end = put_arrow(out, end, a, i, d, edge.target, edge.weight);
+        d += 1;
+    }
+    end
+}
+
+// The edge for the value d.
+fn put_arrow(
+    out: &mut [u8],
+    at: usize,
+    a: usize,
+    i: usize,
+    d: u8,
+    target: usize,
+    weight: u32,
+) -> usize
+    ensures { λ r. ⌜ Adds (dotEdge a i d (record { target = target; weight = weight })) (now (out .entry)) (now (out .exit)) at r ⌝ }
+{
+    let from = put_name(out, at, b"  ", a, i);
+    let to = put_name(out, from, b" -> ", a, target);
+    let value = put_numbered(out, to, b" [label=\"", d as u64);
+    let adds = put_numbered(out, value, b": +", weight as u64);
+    append(out, adds, b"\"];\n")
+}

@@ -1,0 +1,31 @@
+-- `expand::expand_in` meets its contract: a list that is too long, and else a buffer with room for all that may come. Assumes nothing.
+use mathlib.Core.Path.{sym}
+use native.Mathlib.Omega.{arith}
+use denote.Ref.{now}
+use Rattle.taskfile.specs.PartsInPlaceLaws.{reads}
+use Rattle.numbering.specs.ExpandLaws.{expand-long}
+use Rattle.carry.specs.AnswerLaws.{refused-in}
+use borrow.Author.Needs.{needs}
+use Rattle.expand.proofs.expand_in.Statement.{statement}
+use Rattle.expand.proofs.expand_in.Tie as tie
+
+returns : tie.Need-returns
+returns c =
+    let s = c .before .before .before .before .before in
+    let f = now (s .args .file) in
+    let r = refused-in (now (s .args .out)) (expand-long f (reads f (s .pre)) (now (s .args .list)) (c .if1 .taken)) in
+    (sym (r .0), sym (r .1))
+
+pub expand-in-spec : {M : Type 1} → statement M
+expand-in-spec =
+    tie.close
+    (tie.spec
+    returns
+    (λ c. search needs)
+    (λ c κs. (c .before .before .before .before .before .before .before .before .pre, omega (arith, c .before .before .before .if1 .left), omega (arith, c .before .before .if2 .taken)))
+    (λ c. search needs)
+    (λ c. c .before .before .before .expand-by .ensures)
+    (λ c. search needs)
+    (λ c κs. (c .before .before .before .before .before .before .before .before .pre, omega (arith, c .before .before .before .if1 .left), omega (arith, c .before .before .before .if1 .left)))
+    (λ c. search needs)
+    (λ c. c .before .before .before .expand-by2 .ensures))

@@ -1,0 +1,85 @@
+// Expanding: the probe list that comes from a list of actions.
+use carry::Carried;
+use facts::Ran;
+use facts::Refusal;
+use taskfile::Counted;
+use taskfile::Task;
+ghost use mathlib.Core.Path.{_≡_};
+ghost use Prim.Native.Nat.{_*_, _≤_};
+ghost use lib.ListN.{length};
+ghost use Rattle.taskfile.specs.Task.{maxList};
+ghost use Rattle.taskfile.specs.Index.{indexOf, Ready};
+ghost use Rattle.carry.specs.CarryFile.{expanded, answerIn, bufferIn};
+ghost use Rattle.numbering.specs.InPlace.{maxEntries};
+ghost use Rattle.carry.specs.Answers.{carriedAnswer};
+
+// The most actions of a list whose probe list is written into the smaller buffer.
+const SHORT_LIST: usize = 32;
+
+// Writes the probe list that comes from a list of actions: the task file's refusals, then 8, per action 11 before 9, 10 at the end, and 7 where the
+// buffer is too short; a refusal changes no entry.
+pub fn expand(file: &[u8], list: &[u16], out: &mut [u16]) -> Carried
+    ensures { λ r. ⌜ carriedAnswer r ≡ answerIn (length (now (out .entry))) (expanded (now (file .entry)) (now (list .entry))) ⌝ }
+    ensures { λ r. ⌜ now (out .exit) ≡ bufferIn (now (out .entry)) (expanded (now (file .entry)) (now (list .entry))) ⌝ }
+{
+    let mut row = [0; Task::ROW];
+    match index::index_in(file, &mut row) {
+        Counted::Refused(why) => Carried::Refused(why),
+        Counted::Actions(variables, actions) => {
+            expand_in(file, variables, actions, &row, list, out)
+        }
+    }
+}
+
+// The same, of a file that is accepted: the probe list is written into a buffer of its own first, as a list may be refused at its end.
+fn expand_in(
+    file: &[u8],
+    variables: usize,
+    actions: usize,
+    row: &[usize],
+    list: &[u16],
+    out: &mut [u16],
+) -> Carried
+    requires { ⌜ Ready (now file) (indexOf variables actions (now row)) ⌝ }
+    ensures { λ r. ⌜ carriedAnswer r ≡ answerIn (length (now (out .entry))) (expanded (now (file .entry)) (now (list .entry))) ⌝ }
+    ensures { λ r. ⌜ now (out .exit) ≡ bufferIn (now (out .entry)) (expanded (now (file .entry)) (now (list .entry))) ⌝ }
+{
+    if Task::MAX_LIST < list.len() {
+        return Carried::Refused(Refusal::Long(Task::MAX_LIST));
+    }
+    if list.len() <= SHORT_LIST {
+        let mut few = [0; 832];
+        return expand_by(file, variables, actions, row, list, &mut few, out);
+    }
+    let mut many = [0; 6656];
+    expand_by(file, variables, actions, row, list, &mut many, out)
+}
+
+// The same by a buffer that has room for the probe list.
+fn expand_by(
+    file: &[u8],
+    variables: usize,
+    actions: usize,
+    row: &[usize],
+    list: &[u16],
+    room: &mut [u16],
+    out: &mut [u16],
+) -> Carried
+    requires { ⌜ Ready (now file) (indexOf variables actions (now row)) × (length (now list) ≤ maxList) × (maxEntries * length (now list) ≤ length (now room)) ⌝ }
+    ensures { λ r. ⌜ carriedAnswer r ≡ answerIn (length (now (out .entry))) (expanded (now (file .entry)) (now (list .entry))) ⌝ }
+    ensures { λ r. ⌜ now (out .exit) ≡ bufferIn (now (out .entry)) (expanded (now (file .entry)) (now (list .entry))) ⌝ }
+{
+    let listed = expansion::put_plan(file, variables, actions, row, list, room);
+    let answer = listed.answer;
+    let written = listed.written;
+    match answer {
+        Ran::Refused(why) => Carried::Refused(why),
+        Ran::Sum(sum) => {
+            if out.len() < written {
+                return Carried::Refused(Refusal::Short(written));
+            }
+            numbering::put_entries(&room[..written], out);
+            Carried::List(written, sum)
+        }
+    }
+}

@@ -1,0 +1,112 @@
+// The steps of a task's probe file, numbered in place.
+use facts::number::byte_at;
+use facts::number::offset_at;
+use facts::number::offset_within;
+use taskfile::Task;
+use walk::count::node_count;
+ghost use mathlib.Core.Path.{_≡_};
+ghost use Prim.Native.Nat.{ℕ, _+_, _≤_, _<_};
+ghost use lib.ListN.{length, getD};
+ghost use Rattle.facts.specs.Lists.{total};
+ghost use Rattle.facts.specs.Write.{Wrote};
+ghost use Rattle.taskfile.specs.PartsInPlace.{nodesIn, actionsIn, Tested};
+ghost use Rattle.compilation.specs.Compile.{edgeCount};
+ghost use Rattle.numbering.specs.InPlace.{AllTested, Rows, Edges, Numbered, noteFrom};
+ghost use Prim.Native.Nat.{_+_, _*_, _≤_};
+ghost use lib.ListN.{length, take, drop};
+ghost use Rattle.taskfile.specs.PartsInPlace.{actionsIn};
+
+// Numbers the steps: notes the number of each action's start, past the last the number of all steps, and for each node, at its index in `node_at`, the number of its first edge.
+pub fn number_steps(
+    file: &[u8],
+    sizes: &[u8],
+    action_at: &[usize],
+    first_node: &[usize],
+    node_at: &[usize],
+    first_step: &mut [usize],
+    first_edge: &mut [usize],
+)
+    requires { ⌜ length (now «action_at») < length (now «first_step») ⌝ }
+    requires { ⌜ Rows (actionsIn (now file) (now sizes) (now «action_at») (now «first_node») (now «node_at») 0 (length (now «action_at»))) (now «first_node») (length (now «first_edge»)) × AllTested (now file) (now «action_at») (now «first_node») (now «node_at») ⌝ }
+    ensures { λ r. ⌜ Numbered (actionsIn (now (file .entry)) (now (sizes .entry)) (now («action_at» .entry)) (now («first_node» .entry)) (now («node_at» .entry)) 0 (length (now («action_at» .entry)))) (now («first_node» .entry)) (now («first_step» .exit)) (now («first_edge» .exit)) ⌝ }
+{
+    let mut next: usize = 0;
+    let mut a: usize = 0;
+    while a < action_at.len() {
+        first_step[a] = next;
+        let first = offset_within(first_node, a, node_at.len());
+        let count = node_count(file, action_at[a]);
+        let row = offset_within(first_node, a, first_edge.len());
+        next = 1
+            + number_edges(
+                file,
+                sizes,
+                &node_at[first..],
+                count,
+                1 + next,
+                &mut first_edge[row..],
+            );
+        a += 1;
+    }
+    first_step[a] = next;
+}
+
+// Notes the number of the first edge of each of `count` nodes, where `from` is the first node's; answers the number after their edges.
+fn number_edges(
+    file: &[u8],
+    sizes: &[u8],
+    nodes: &[usize],
+    count: u8,
+    from: usize,
+    first_edge: &mut [usize],
+) -> usize
+    requires { ⌜ (count ≤ length (now «first_edge»)) × (from + total edgeCount (nodesIn (now file) (now sizes) (now nodes) 0 count) ≤ 576) × Tested (now file) (now nodes) count ⌝ }
+    ensures { λ r. ⌜ r ≡ from + total edgeCount (nodesIn (now (file .entry)) (now (sizes .entry)) (now (nodes .entry)) 0 count) ⌝ }
+    ensures { λ r. ⌜ Edges (nodesIn (now (file .entry)) (now (sizes .entry)) (now (nodes .entry)) 0 count) from (now («first_edge» .exit)) ⌝ }
+{
+    let mut next = from;
+    let mut j: usize = 0;
+    while j < count as usize {
+        first_edge[j] = next;
+        let variable = offset_at(nodes, Task::MAX_NODES + j);
+        next += byte_at(sizes, variable) as usize;
+        j += 1;
+    }
+    next
+}
+
+// Notes 1 and the number of each action at the number of its start.
+pub fn note_actions(first_step: &[usize], action_of: &mut [u8])
+    requires { ⌜ (length (now «action_of») ≡ 576) × (length (now «first_step») ≤ 32) × ((a : ℕ) → a < length (now «first_step») → getD (now «first_step») a 0 < 576) ⌝ }
+    ensures { λ r. ⌜ now («action_of» .exit) ≡ noteFrom 0 (now («first_step» .entry)) (now («action_of» .entry)) ⌝ }
+{
+    let mut a: usize = 0;
+    while a < first_step.len() {
+        action_of[first_step[a]] = (1 + a) as u8;
+        a += 1;
+    }
+}
+
+// The initial state: the values behind the domain sizes.
+pub fn initial(file: &[u8], variables: usize) -> [u8; 24]
+    requires { ⌜ (variables ≤ 24) × (1 + 2 * variables ≤ length (now file)) ⌝ }
+    ensures { λ r. ⌜ (take variables r ≡ take variables (drop (1 + variables) (now (file .entry)))) × (length r ≡ 24) ⌝ }
+{
+    let init = 1 + variables;
+    let goal = init + variables;
+    let mut state = [0; 24];
+    bytes::copy(&file[init..goal], &mut state[..variables]);
+    state
+}
+
+// Copies entries to the front of a buffer.
+pub fn put_entries(entries: &[u16], out: &mut [u16])
+    requires { ⌜ length (now entries) ≤ length (now out) ⌝ }
+    ensures { λ r. ⌜ Wrote (now (entries .entry)) (now (out .entry)) (now (out .exit)) (length (now (entries .entry))) ⌝ }
+{
+    let mut i: usize = 0;
+    while i < entries.len() {
+        out[i] = entries[i];
+        i += 1;
+    }
+}

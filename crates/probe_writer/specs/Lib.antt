@@ -1,0 +1,4 @@
+pub mod HeadInPlace
+pub mod InPlaceLaws
+pub mod ExtentLaws
+pub mod HeadLaws

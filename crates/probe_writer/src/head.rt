@@ -1,0 +1,121 @@
+// The head of the probe file of a task: sizes, initial values and goal, then the step count.
+use facts::number::byte_at;
+use facts::number::offset_at;
+use partial::length_at;
+use step_writer::put::bit;
+use step_writer::put::put_byte;
+use step_writer::put::put_bytes;
+use step_writer::put::put_extended;
+use step_writer::put::put_word;
+ghost use mathlib.Core.Path.{_≡_};
+ghost use mathlib.Core.List.{_++_};
+ghost use Prim.Native.Nat.{ℕ, _+_, _*_, _^_, _≤_, _<_};
+ghost use lib.ListN.{length, getD};
+ghost use Rattle.facts.specs.Bytes.{bytesOf};
+ghost use Rattle.facts.specs.Partial.{partialAt, partialBytes, writePartial};
+ghost use Rattle.facts.specs.Write.{Wrote};
+ghost use Rattle.taskfile.specs.PartsInPlace.{Stands};
+ghost use Rattle.step_writer.specs.InPlace.{Weighs};
+ghost use Rattle.probe_writer.specs.HeadInPlace.{markersIn, sizesIn, initIn, goalIn, headIn};
+
+// The length of head and step count, for a task with n variables: a byte for the number of variables, one for each size and initial value, the goal, two bytes.
+pub fn head_length(file: &[u8], n: usize, actions: usize) -> usize
+    requires { ⌜ (n ≤ 24) × (actions ≤ 32) × (1 + 2 * n ≤ length (now file)) ⌝ }
+    ensures { λ r. ⌜ (r ≡ 3 + 2 * n + partialBytes (partialAt (now (file .entry)) (1 + 2 * n)) + 3 * (1 + actions)) × (r ≤ 222) ⌝ }
+{
+    let goal = 1 + 2 * n;
+    3 + 2 * n + length_at(file, goal) + 3 * (1 + actions)
+}
+
+// Head and step count: `action_at` has the offset of each action, `incoming_at` that of its incoming weight.
+pub fn put_head(
+    file: &[u8],
+    n: usize,
+    action_at: &[usize],
+    incoming_at: &[usize],
+    steps: usize,
+    out: &mut [u8],
+) -> usize
+    requires { ⌜ (n ≤ 24) × (length (now «action_at») ≤ 32) × (steps < 65536) × Stands (now file) n (1 + 2 * n) ⌝ }
+    requires { ⌜ ((a : ℕ) → a < length (now «action_at») → Weighs (now file) (getD (now «action_at») a 0) (getD (now «incoming_at») a 0)) ⌝ }
+    requires { ⌜ length (headIn (now file) n (now «action_at») ++ bytesOf 2 steps) ≤ length (now out) ⌝ }
+    ensures { λ r. ⌜ Wrote (headIn (now (file .entry)) n (now («action_at» .entry)) ++ bytesOf 2 steps) (now (out .entry)) (now (out .exit)) r ⌝ }
+{
+    let sizes = put_sizes(file, n, action_at, incoming_at, out);
+    let init = sizes + put_init(file, n, action_at.len(), &mut out[sizes..]);
+    let goal = init + put_goal(file, n, action_at.len(), &mut out[init..]);
+    goal + put_word(&mut out[goal..], steps as u32)
+}
+
+// The number of variables and the domain sizes: those of the task, 2 for the semaphore, one for each marker.
+fn put_sizes(
+    file: &[u8],
+    n: usize,
+    action_at: &[usize],
+    incoming_at: &[usize],
+    out: &mut [u8],
+) -> usize
+    requires { ⌜ (n ≤ 24) × (length (now «action_at») ≤ 32) × (1 + 2 * n ≤ length (now file)) ⌝ }
+    requires { ⌜ ((a : ℕ) → a < length (now «action_at») → Weighs (now file) (getD (now «action_at») a 0) (getD (now «incoming_at») a 0)) ⌝ }
+    requires { ⌜ 2 + n + length (now «action_at») ≤ length (now out) ⌝ }
+    ensures { λ r. ⌜ Wrote (sizesIn (now (file .entry)) n (now («action_at» .entry))) (now (out .entry)) (now (out .exit)) r ⌝ }
+{
+    let last = 1 + n;
+    let count = put_byte(out, (n + (1 + action_at.len())) as u8);
+    let own = count + put_bytes(&mut out[count..], &file[1..last]);
+    let semaphore = own + put_byte(&mut out[own..], 2);
+    semaphore + put_markers(file, action_at, incoming_at, &mut out[semaphore..])
+}
+
+// The domain size of each action's marker: 0, each node and the terminal.
+fn put_markers(file: &[u8], action_at: &[usize], incoming_at: &[usize], out: &mut [u8]) -> usize
+    requires { ⌜ ((a : ℕ) → a < length (now «action_at») → Weighs (now file) (getD (now «action_at») a 0) (getD (now «incoming_at») a 0)) ⌝ }
+    requires { ⌜ length (now «action_at») ≤ length (now out) ⌝ }
+    ensures { λ r. ⌜ Wrote (markersIn (now (file .entry)) (now («action_at» .entry))) (now (out .entry)) (now (out .exit)) r ⌝ }
+{
+    let mut at: usize = 0;
+    let mut a: usize = 0;
+    while a < action_at.len() {
+        let incoming = offset_at(incoming_at, a);
+        let size = byte_at(file, incoming + 2) as usize + 2;
+        at += put_byte(&mut out[at..], size as u8);
+        a += 1;
+    }
+    at
+}
+
+// The initial values: those of the task, then semaphore and markers at 0.
+fn put_init(file: &[u8], n: usize, actions: usize, out: &mut [u8]) -> usize
+    requires { ⌜ (n ≤ 24) × (actions ≤ 32) × (1 + 2 * n ≤ length (now file)) ⌝ }
+    requires { ⌜ n + (1 + actions) ≤ length (now out) ⌝ }
+    ensures { λ r. ⌜ Wrote (initIn (now (file .entry)) n actions) (now (out .entry)) (now (out .exit)) r ⌝ }
+{
+    let zeros: [u8; 33] = [0; 33];
+    let from = 1 + n;
+    let end = from + n;
+    let further = 1 + actions;
+    let own = put_bytes(out, &file[from..end]);
+    own + put_bytes(&mut out[own..], &zeros[..further])
+}
+
+// The goal: the task's, with semaphore and markers at 0.
+fn put_goal(file: &[u8], n: usize, actions: usize, out: &mut [u8]) -> usize
+    requires { ⌜ (n ≤ 24) × (actions ≤ 32) × Stands (now file) n (1 + 2 * n) ⌝ }
+    requires { ⌜ length (writePartial (goalIn (now file) n actions)) ≤ length (now out) ⌝ }
+    ensures { λ r. ⌜ Wrote (writePartial (goalIn (now (file .entry)) n actions)) (now (out .entry)) (now (out .exit)) r ⌝ }
+{
+    let zeros: [u8; 33] = [0; 33];
+    let further = 1 + actions;
+    let bits = row_of_bits(n, further);
+    let goal = 1 + 2 * n;
+    let end = goal + length_at(file, goal);
+    put_extended(file, goal, end, bits, &zeros[..further], out)
+}
+
+// The map with the bits of `count` variables from n on.
+fn row_of_bits(n: usize, count: usize) -> u64
+    requires { ⌜ n + count < 64 ⌝ }
+    ensures { λ r. ⌜ r + 2 ^ n ≡ 2 ^ (n + count) ⌝ }
+{
+    bit(n + count) - bit(n)
+}

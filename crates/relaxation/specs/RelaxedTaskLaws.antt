@@ -1,0 +1,112 @@
+-- Laws of relaxed costs of task files: the ways in which the check of a relaxed state can go, what an accepted one is, and the relaxed cost of an action
+-- in place.
+use mathlib.Core.Path.{_≡_, refl, sym, ap, ap₂, subst, subst₂, _∙_}
+use mathlib.Core.Bool.{Bool, true, false, _&&_, and-eq-true-iff}
+use Prim.Native.Nat.{ℕ, _^_, _≤_, _<_}
+use native.Mathlib.Omega.{arith}
+use mathlib.Core.List.{List, [], _∷_}
+use lib.Dec.{ltb}
+use lib.ListN.{length, getD, drop}
+use borrow.Author.Tests.{lt-ltb, le-ltb, ltb-true}
+use Rattle.facts.specs.Read.{accepted, refused}
+use Rattle.facts.specs.Lists.{All, At}
+use Rattle.facts.specs.ListLaws.{zip-map, total-at}
+use Rattle.facts.specs.State.{checkValues}
+use Rattle.facts.specs.StateLaws.{with-width, with-values, with-good}
+use Rattle.taskfile.specs.Task.{Action, Task, maxValues, maxNodes, WfAction}
+use Rattle.taskfile.specs.InPlace.{Lies}
+use Rattle.taskfile.specs.Index.{Index, Ready}
+use Rattle.taskfile.specs.WalkInPlace.{nodeCount}
+use Rattle.taskfile.specs.PartsInPlace.{actionIn}
+use Rattle.taskfile.specs.TaskReadLaws.{task-wf, task-limits}
+use Rattle.taskfile.specs.AnswerLaws.{there}
+use Rattle.taskfile.specs.PartsInPlaceLaws.{at-some, action-here}
+use Rattle.taskfile.specs.WalkInPlaceLaws.{count-is}
+use Rattle.relaxation.specs.Relaxed.{SetInside, RelaxedInside, relaxedCost}
+use Rattle.relaxation.specs.RelaxedPass.{relaxedByPass}
+use Rattle.relaxation.specs.RelaxedLaws.{relaxed-by-pass}
+use Rattle.relaxation.specs.RelaxedInPlace.{Relaxable}
+use Rattle.relaxation.specs.RelaxedTask.{goodSet, checkRelaxed}
+
+-- ---- the test of a set
+
+and-false : (b : Bool) → (b && false) ≡ false
+and-false true = refl
+and-false false = refl
+
+pub set-empty : (size set : ℕ) → set ≡ 0 → goodSet size set ≡ false
+set-empty size set e = ap (λ (b : Bool). b && ltb set (2 ^ size)) (le-ltb 0 set (omega arith))
+
+pub set-stray : (size set : ℕ) → 2 ^ size ≤ set → goodSet size set ≡ false
+set-stray size set h = ap (_&&_ (ltb 0 set)) (le-ltb set (2 ^ size) h) ∙ and-false (ltb 0 set)
+
+pub set-good : (size set : ℕ) → (set ≡ 0 → ⊥) → set < 2 ^ size → goodSet size set ≡ true
+set-good size set some h = ap₂ _&&_ (lt-ltb 0 set (omega (arith, some))) (lt-ltb set (2 ^ size) h)
+
+set-inside : (size set : ℕ) → goodSet size set ≡ true → SetInside size set
+set-inside size set h =
+    let both = and-eq-true-iff (ltb 0 set) (ltb set (2 ^ size)) .0 h in
+    record { some = ltb-true 0 set (both .0); no-stray = ltb-true set (2 ^ size) (both .1) }
+
+-- ---- the check
+
+module _ (sizes sets : List ℕ) where
+  pub relaxed-width : (length sets ≡ length sizes → ⊥) → checkRelaxed sizes sets ≡ refused 12 0
+  unfolding checkRelaxed
+  relaxed-width n = with-width goodSet sizes sets n
+
+  pub relaxed-values : length sets ≡ length sizes → checkRelaxed sizes sets ≡ checkValues goodSet 0 sizes sets
+  unfolding checkRelaxed
+  relaxed-values e = with-values goodSet sizes sets e
+
+  pub relaxed-inside : {u : Unit {0}} → checkRelaxed sizes sets ≡ accepted u → RelaxedInside sizes sets
+  unfolding checkRelaxed
+  relaxed-inside h = zip-map SetInside set-inside (with-good goodSet sizes sets h)
+
+-- ---- the relaxed cost of action number a, in place
+
+small-sizes : (sizes : List ℕ) → All (λ d. (2 ≤ d) × (d ≤ maxValues)) sizes → All (λ d. d ≤ maxValues) sizes
+small-sizes [] h = tt
+small-sizes (d ∷ sizes) h = (h .0 .1, small-sizes sizes (h .1))
+
+module _ (f : List ℕ) {i : Index} (ready : Ready f i) (a : ℕ) where
+  abbrev t : Task
+  t = there f ready .task
+
+  -- where it starts, and where its own nodes begin
+  abbrev start : ℕ
+  start = getD (i .starts) a 0
+
+  abbrev own : List ℕ
+  own = drop (getD (i .firsts) a 0) (i .nodes)
+
+  small : All (λ d. d ≤ maxValues) (t .sizes)
+  small = small-sizes (t .sizes) (task-limits f (there f ready .reads) .sizes)
+
+  module _ {x : Action} (h : At (t .actions) a x) where
+    lies : Lies f (t .sizes) x start (getD (i .firsts) a 0) (i .nodes)
+    lies = ready .located .lies t (there f ready .reads) a x h
+
+    wf : WfAction (t .sizes) x
+    wf = task-wf f (there f ready .reads) .actions h
+
+    few : nodeCount f start ≤ maxNodes
+    few = omega (arith, count-is f lies, total-at (λ (x : Action). length (x .nodes)) h, task-limits f (there f ready .reads) .nodes)
+
+  module _ {sizes offsets sets : List ℕ} (s : sizes ≡ t .sizes) (o : offsets ≡ own) (inside : RelaxedInside sizes sets) where
+    -- it has a relaxed cost
+    pub relaxable : a < i .actions → Relaxable f sizes start offsets sets
+    relaxable l =
+        let found = at-some (t .actions) a (omega (arith, there f ready .actions)) in
+        let x = found .0 in
+        let h = found .1 in
+        subst₂ (λ (ds os : List ℕ). RelaxedInside ds sets → Relaxable f ds start os sets) (sym s) (sym o)
+        (λ fits. record { wf = subst (WfAction (t .sizes)) (sym (action-here f (lies h))) (wf h); small = small; few = few h; inside = fits })
+        inside
+
+    -- and one pass over its nodes finds it
+    pub relaxed-in-place : {x : Action} → At (t .actions) a x → relaxedByPass (actionIn f sizes start offsets) sets ≡ relaxedCost x sets
+    relaxed-in-place {x} h =
+        ap₂ (λ (ds os : List ℕ). relaxedByPass (actionIn f ds start os) sets) s o
+        ∙ ap (λ (y : Action). relaxedByPass y sets) (action-here f (lies h))
+        ∙ sym (relaxed-by-pass (wf h) small sets (subst (λ (ds : List ℕ). RelaxedInside ds sets) s inside))

@@ -1,0 +1,59 @@
+// The additive estimate of a task file.
+mod price;
+mod rounds;
+
+use estimate::Estimated;
+use facts::Checked;
+use taskfile::Counted;
+use taskfile::Task;
+ghost use mathlib.Core.Path.{_≡_};
+ghost use Rattle.taskfile.specs.Index.{indexOf, Ready};
+ghost use Rattle.estimate.specs.Answers.{estimatedAnswer};
+ghost use Rattle.relaxation.specs.EstimateTask.{estimateTask};
+
+// The estimate from a state: the file's refusals, then 12 and 4 for the state.
+pub fn estimate(file: &[u8], state: &[u8]) -> Estimated
+    ensures { λ r. ⌜ estimatedAnswer r ≡ estimateTask (now (file .entry)) (now (state .entry)) ⌝ }
+{
+    let mut row = [0; Task::ROW];
+    match index::index_in(file, &mut row) {
+        Counted::Refused(why) => Estimated::Refused(why),
+        Counted::Actions(variables, actions) => {
+            estimate_in(file, variables, actions, &row, state)
+        }
+    }
+}
+
+// The same, of a file that is accepted.
+fn estimate_in(
+    file: &[u8],
+    variables: usize,
+    actions: usize,
+    row: &[usize],
+    state: &[u8],
+) -> Estimated
+    requires { ⌜ Ready (now file) (indexOf variables actions (now row)) ⌝ }
+    ensures { λ r. ⌜ estimatedAnswer r ≡ estimateTask (now (file .entry)) (now (state .entry)) ⌝ }
+{
+    let starts = &row[..Task::FIRSTS];
+    let firsts = &row[Task::FIRSTS..Task::NODES];
+    let nodes = &row[Task::NODES..Task::ROW];
+    let init = 1 + variables;
+    let sizes = &file[1..init];
+    match partial::state::check_state(sizes, state) {
+        Checked::Refused(why) => Estimated::Refused(why),
+        Checked::Accepted => {
+            let goal = init + variables;
+            let number = rounds::settle(
+                file,
+                sizes,
+                goal,
+                &starts[..actions],
+                firsts,
+                nodes,
+                state,
+            );
+            Estimated::Number(number)
+        }
+    }
+}

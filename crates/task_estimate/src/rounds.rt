@@ -1,0 +1,161 @@
+// The estimate of a task, in place: one array of ranks, which actions lower in turn.
+use crate::price::least_from;
+use estimate::Est;
+use estimate::ranks::NEVER;
+use estimate::ranks::UNSET;
+use estimate::ranks::ranked;
+use estimate::ranks::sum_rank;
+use facts::number::offset_within;
+use walk::diagram_past;
+ghost use mathlib.Core.Path.{_≡_};
+ghost use Prim.Native.Nat.{ℕ, _<_};
+ghost use lib.ListN.{length, getD, drop};
+ghost use Rattle.facts.specs.Partial.{partialAt};
+ghost use Rattle.estimate.specs.Number.{number};
+ghost use Rattle.estimate.specs.Additive.{additive};
+ghost use Rattle.estimate.specs.Ranks.{rankNumber, HasRanks, Roomy, Fresh, Fell};
+ghost use Rattle.estimate.specs.InTurn.{afterOwn, InTurn};
+ghost use Rattle.relaxation.specs.EstimateInPlace.{achieverIn, achieversIn, Priceable, Estimable};
+
+// The ranks have room for so many facts, those of 24 variables.
+pub const FACTS: usize = 1584;
+
+// The arrays of ranks of tasks that have few variables: for so many, and with so many places each.
+const FEWEST: usize = 3;
+
+const FEWEST_FACTS: usize = 198;
+
+const FEW: usize = 8;
+
+const FEW_FACTS: usize = 528;
+
+// The estimate from a state: `action_at` has the offset of each action, `first_node` the index of its first node in `node_at`, and the goal starts at `goal`. An array is filled in whole, so the smallest
+// that has room for all facts is taken.
+pub fn settle(
+    file: &[u8],
+    sizes: &[u8],
+    goal: usize,
+    action_at: &[usize],
+    first_node: &[usize],
+    node_at: &[usize],
+    state: &[u8],
+) -> Est
+    requires { ⌜ Estimable (now file) (now sizes) goal (now «action_at») (now «first_node») (now «node_at») ⌝ }
+    ensures { λ r. ⌜ number r ≡ additive (now (sizes .entry)) (achieversIn (now (file .entry)) (now (sizes .entry)) (now («action_at» .entry)) (now («first_node» .entry)) (now («node_at» .entry)) 0 (length (now («action_at» .entry)))) (partialAt (now (file .entry)) goal) (now (state .entry)) ⌝ }
+{
+    if sizes.len() <= FEWEST {
+        let mut fewest = [UNSET; FEWEST_FACTS];
+        return settle_in(
+            file,
+            sizes,
+            goal,
+            action_at,
+            first_node,
+            node_at,
+            state,
+            &mut fewest,
+        );
+    }
+    settle_more(file, sizes, goal, action_at, first_node, node_at, state)
+}
+
+// The same for a task that may have more variables.
+fn settle_more(
+    file: &[u8],
+    sizes: &[u8],
+    goal: usize,
+    action_at: &[usize],
+    first_node: &[usize],
+    node_at: &[usize],
+    state: &[u8],
+) -> Est
+    requires { ⌜ Estimable (now file) (now sizes) goal (now «action_at») (now «first_node») (now «node_at») ⌝ }
+    ensures { λ r. ⌜ number r ≡ additive (now (sizes .entry)) (achieversIn (now (file .entry)) (now (sizes .entry)) (now («action_at» .entry)) (now («first_node» .entry)) (now («node_at» .entry)) 0 (length (now («action_at» .entry)))) (partialAt (now (file .entry)) goal) (now (state .entry)) ⌝ }
+{
+    if sizes.len() <= FEW {
+        let mut few = [UNSET; FEW_FACTS];
+        return settle_in(
+            file,
+            sizes,
+            goal,
+            action_at,
+            first_node,
+            node_at,
+            state,
+            &mut few,
+        );
+    }
+    let mut ranks = [UNSET; FACTS];
+    settle_in(
+        file,
+        sizes,
+        goal,
+        action_at,
+        first_node,
+        node_at,
+        state,
+        &mut ranks,
+    )
+}
+
+// The same in fresh ranks: offers from the start until no rank falls, and then the goal facts' sum.
+fn settle_in(
+    file: &[u8],
+    sizes: &[u8],
+    goal: usize,
+    action_at: &[usize],
+    first_node: &[usize],
+    node_at: &[usize],
+    state: &[u8],
+    ranks: &mut [u64],
+) -> Est
+    requires { ⌜ Estimable (now file) (now sizes) goal (now «action_at») (now «first_node») (now «node_at») × Roomy (now sizes) (length (now ranks)) × Fresh (now ranks) ⌝ }
+    ensures { λ r. ⌜ number r ≡ additive (now (sizes .entry)) (achieversIn (now (file .entry)) (now (sizes .entry)) (now («action_at» .entry)) (now («first_node» .entry)) (now («node_at» .entry)) 0 (length (now («action_at» .entry)))) (partialAt (now (file .entry)) goal) (now (state .entry)) ⌝ }
+{
+    estimate::start(state, ranks);
+    loop {
+        if offer_actions(file, sizes, action_at, first_node, node_at, ranks) {
+            continue;
+        }
+        let sum = offers::sum_at(file, goal, sizes.len(), ranks);
+        return ranked(sum.rank);
+    }
+}
+
+// All actions offer in turn, each by the numbers as they are then; whether a rank fell.
+fn offer_actions(
+    file: &[u8],
+    sizes: &[u8],
+    action_at: &[usize],
+    first_node: &[usize],
+    node_at: &[usize],
+    ranks: &mut [u64],
+) -> bool
+    requires { ⌜ ((a : ℕ) → a < length (now «action_at») → Priceable (now file) (now sizes) (getD (now «action_at») a 0) (drop (getD (now «first_node») a 0) (now «node_at»))) ⌝ }
+    ensures { λ r. ⌜ InTurn (length (now (sizes .entry))) (achieversIn (now (file .entry)) (now (sizes .entry)) (now («action_at» .entry)) (now («first_node» .entry)) (now («node_at» .entry)) 0 (length (now («action_at» .entry)))) (now (ranks .entry)) (now (ranks .exit)) r ⌝ }
+{
+    let mut fell = false;
+    for a in 0..action_at.len() {
+        let first = offset_within(first_node, a, node_at.len());
+        let more = offer_action(file, sizes, action_at[a], &node_at[first..], ranks);
+        fell = fell || more;
+    }
+    fell
+}
+
+// The same for the action at an offset, whose own nodes begin at the offsets `nodes`.
+fn offer_action(file: &[u8], sizes: &[u8], at: usize, nodes: &[usize], ranks: &mut [u64]) -> bool
+    requires { ⌜ Priceable (now file) (now sizes) at (now nodes) ⌝ }
+    ensures { λ r. ⌜ HasRanks (now (ranks .exit)) (afterOwn (length (now (sizes .entry))) (achieverIn (now (file .entry)) (now (sizes .entry)) at (now (nodes .entry))) (rankNumber (now (ranks .entry)))) ⌝ }
+    ensures { λ r. ⌜ Fell (now (ranks .entry)) (now (ranks .exit)) r ⌝ }
+{
+    let known = offers::sum_at(file, at, sizes.len(), ranks);
+    if NEVER <= known.rank {
+        return false; // never is offered to no effect
+    }
+    let effect = known.end;
+    let diagram = diagram_past(file, effect);
+    let least = least_from(file, sizes, diagram.count, nodes, ranks);
+    let offer = sum_rank(known.rank, sum_rank(diagram.incoming as u64, least));
+    offers::lower_at(file, effect, offer, ranks)
+}

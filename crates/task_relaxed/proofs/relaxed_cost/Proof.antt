@@ -1,0 +1,32 @@
+-- `task_relaxed::relaxed_cost` meets its contract: the file, and then the action and the relaxed state. Assumes nothing.
+use mathlib.Core.Path.{sym, ap, _∙_}
+use native.Mathlib.Omega.{arith}
+use Rattle.taskfile.specs.Answers.{countedAnswer}
+use Rattle.taskfile.specs.TaskIndexLaws.{index-ready, index-refused}
+use Rattle.taskfile.specs.AnswerLaws.{ask-refused}
+use Rattle.relaxation.specs.Relaxed.{relaxedCost}
+use Rattle.relaxation.specs.RelaxedTask.{checkRelaxed}
+use borrow.Author.Needs.{needs}
+use Rattle.task_relaxed.proofs.relaxed_cost.Statement.{statement}
+use Rattle.task_relaxed.proofs.relaxed_cost.Tie as tie
+
+relaxed-in-requires : tie.Need-relaxed-in-requires
+relaxed-in-requires c κs =
+    let i = c .before .before .before .before .before .index-in .ensures in
+    index-ready _ (i .0) (i .1) (ap countedAnswer (c .before .before .variables .given .1)) (omega (arith, c .before .before .before .before .row2 .given))
+
+returns : tie.Need-returns
+returns c = sym (ask-refused checkRelaxed relaxedCost _ _ _ (index-refused _ (sym (c .before .before .before .before .index-in .ensures .0) ∙ ap countedAnswer (c .before .why .given .1))))
+
+pub relaxed-cost-spec : {M : Type 1} → statement M
+relaxed-cost-spec =
+    tie.close
+    (tie.spec
+    (λ c. search needs)
+    (λ c κs. search needs)
+    (λ c. search needs)
+    (λ c. search needs)
+    (λ c. search needs)
+    relaxed-in-requires
+    returns
+    (λ c. search needs))

@@ -1,0 +1,23 @@
+// Relaxed costs of task files.
+mod relaxed;
+
+use taskfile::Costed;
+use taskfile::Counted;
+use taskfile::Task;
+ghost use mathlib.Core.Path.{_≡_};
+ghost use Rattle.taskfile.specs.Answers.{costedAnswer};
+ghost use Rattle.relaxation.specs.RelaxedTask.{relaxedTask};
+
+// What an action costs at least over the states of a relaxed state, which has a set of values, one byte, for each variable: the file's refusals, then 11 for
+// the number, then 12 and 4 for the sets.
+pub fn relaxed_cost(file: &[u8], action: usize, sets: &[u8]) -> Costed
+    ensures { λ r. ⌜ costedAnswer r ≡ relaxedTask (now (file .entry)) action (now (sets .entry)) ⌝ }
+{
+    let mut row = [0; Task::ROW];
+    match index::index_in(file, &mut row) {
+        Counted::Refused(why) => Costed::Refused(why),
+        Counted::Actions(variables, actions) => {
+            relaxed::relaxed_in(file, variables, actions, &row, action, sets)
+        }
+    }
+}

@@ -1,0 +1,102 @@
+// Actions in place: one applied, and a list of them run.
+use crate::walk_past;
+use facts::Applied;
+use facts::Held;
+use facts::Ran;
+use facts::Refusal;
+use facts::number::offset_within;
+use partial::apply_at;
+use partial::held_at;
+use taskfile::Run;
+use taskfile::Task;
+ghost use mathlib.Core.Path.{_≡_};
+ghost use Prim.Native.Nat.{_≤_};
+ghost use lib.ListN.{length};
+ghost use Rattle.facts.specs.Partial.{partialAt};
+ghost use Rattle.facts.specs.Answers.{ranAnswer, appliedMove, CostMost};
+ghost use Rattle.taskfile.specs.WalkInPlace.{maxPassed, maxWalk, atCost, performAt, passAt, moveAt, passesAt, runList};
+ghost use Rattle.taskfile.specs.Answers.{passedAnswer};
+
+// What an action answers, and how many nodes its walk passes.
+pub struct Act {
+    pub answer: Applied,
+    pub passed: usize,
+}
+
+// Does the action at an offset: where its precondition holds, its effect is set in the state, and it costs what its walk costs in the state before.
+pub fn apply_action(file: &[u8], at: usize, nodes: &[usize], state: &mut [u8]) -> Act
+    ensures { λ r. ⌜ appliedMove (r .answer) (now (state .exit)) ≡ performAt (now (file .entry)) at (now (nodes .entry)) (now (state .entry)) ⌝ }
+    ensures { λ r. ⌜ atCost (r .passed) (appliedMove (r .answer) (now (state .exit))) ≡ passAt (now (file .entry)) at (now (nodes .entry)) (now (state .entry)) ⌝ }
+    ensures { λ r. ⌜ CostMost maxWalk (r .answer) ⌝ }
+    ensures { λ r. ⌜ r .passed ≤ maxPassed ⌝ }
+{
+    match held_at(file, at, state) {
+        Held::Not => Act {
+            answer: Applied::Blocked,
+            passed: 0,
+        },
+        Held::Ends(effect) => {
+            let walked = walk_past(file, effect, nodes, state);
+            apply_at(file, effect, state);
+            Act {
+                answer: Applied::Next(walked.cost),
+                passed: walked.passed,
+            }
+        }
+    }
+}
+
+// Runs a list of at most 256 numbers from a state: `action_at` has the offset of each action, `first_node` the index of its first node in `node_at`, and the goal starts at `goal`.
+pub fn run_list(
+    file: &[u8],
+    goal: usize,
+    action_at: &[usize],
+    first_node: &[usize],
+    node_at: &[usize],
+    list: &[u16],
+    state: &mut [u8],
+) -> Run
+    ensures { λ r. ⌜ ranAnswer (r .answer) ≡ runList (length (now («action_at» .entry))) (moveAt (now (file .entry)) (now («action_at» .entry)) (now («first_node» .entry)) (now («node_at» .entry))) (partialAt (now (file .entry)) goal) (now (list .entry)) (now (state .entry)) ⌝ }
+    ensures { λ r. ⌜ passedAnswer r ≡ runList (length (now («action_at» .entry))) (passesAt (now (file .entry)) (now («action_at» .entry)) (now («first_node» .entry)) (now («node_at» .entry))) (partialAt (now (file .entry)) goal) (now (list .entry)) (now (state .entry)) ⌝ }
+{
+    if Task::MAX_LIST < list.len() {
+        return Run {
+            answer: Ran::Refused(Refusal::Long(Task::MAX_LIST)),
+            passed: 0,
+        };
+    }
+    let mut sum: u32 = 0;
+    let mut passed: usize = 0;
+    let mut i: usize = 0;
+    while i < list.len() {
+        let number = list[i] as usize;
+        if action_at.len() <= number {
+            return Run {
+                answer: Ran::Refused(Refusal::Missing(i)),
+                passed,
+            };
+        }
+        let first = offset_within(first_node, number, node_at.len());
+        let act = apply_action(file, action_at[number], &node_at[first..], state);
+        let answer = act.answer;
+        let Applied::Next(cost) = answer else {
+            return Run {
+                answer: Ran::Refused(Refusal::Blocked(i)),
+                passed,
+            };
+        };
+        sum += cost;
+        passed += act.passed;
+        i += 1;
+    }
+    if partial::holds_at(file, goal, state) {
+        return Run {
+            answer: Ran::Sum(sum),
+            passed,
+        };
+    }
+    Run {
+        answer: Ran::Refused(Refusal::Unmet(i)),
+        passed,
+    }
+}

@@ -1,0 +1,132 @@
+-- From the index of an accepted task file to the operations: what is written from the parts in place is the task's text.
+use Prim.Native.Nat.{ℕ, zero, suc, _+_, _*_, _-_, _≤_, _<_}
+use mathlib.Core.Option.{none}
+use mathlib.Core.Path.{_≡_, refl, sym, ap, _∙_}
+use mathlib.Core.List.{List, [], _∷_, _++_}
+use native.Mathlib.Omega.{arith}
+use lib.ListN.{length, getD, take, drop, getElem?}
+use Rattle.facts.specs.Read.{Read, accepted, refused}
+use Rattle.facts.specs.ReadLaws.{not-made}
+use Rattle.facts.specs.ListLaws.{look}
+use Rattle.facts.specs.Partial.{partialAt}
+use Rattle.taskfile.specs.Task.{Action, Task}
+use Rattle.taskfile.specs.TaskFile.{readTask, checkTask, actionOf}
+use Rattle.taskfile.specs.Index.{Index, Ready}
+use Rattle.taskfile.specs.AnswerLaws.{there, starts, sizes-there, starts-count}
+use Rattle.taskfile.specs.PartsInPlace.{actionsIn}
+use Rattle.taskfile.specs.PartsInPlaceLaws.{at-some, action-here, located, actions-in-place}
+use Rattle.compilation.specs.Compile.{flat}
+use Rattle.text.specs.Append.{bytes, Adds}
+use Rattle.text.specs.AppendLaws.{adds-front, adds-end}
+use Rattle.words.specs.Words.{partialText}
+use Rattle.words.specs.Show.{variableText, actionText, taskText}
+use Rattle.words.specs.Dot.{dotAction}
+use Rattle.words.specs.DotLaws.{drawing-text, row-one}
+use Rattle.words.specs.Rows.{rowFrom, actionFor, drawing}
+use Rattle.words.specs.RowLaws.{actions-row, list-row}
+use Rattle.words.specs.DescribeFile.{shown, drawn, drawnAction, lengthIn, textIn}
+
+-- There is no element past the last.
+pub look-none : {A : Type 0} (xs : List A) (k : ℕ) → length xs ≤ k → getElem? xs k ≡ none
+look-none [] k l = refl
+look-none (x ∷ xs) zero l = absurd (omega arith)
+look-none (x ∷ xs) (suc k) l = look-none xs k (omega arith)
+
+-- ---- answers
+
+-- A refusal writes nothing.
+pub refused-in : {answer : Read (List ℕ)} {n p : ℕ} (out : List ℕ) → answer ≡ refused n p → (refused n p ≡ lengthIn (length out) answer) × (out ≡ textIn out answer)
+unfolding lengthIn textIn
+refused-in out e = (rw e, rw (e, textIn))
+
+-- A text is written from the front on, and how much of it is the answer.
+pub written-in : {answer : Read (List ℕ)} {text out now : List ℕ} {end : ℕ} → answer ≡ accepted text → Adds text out now 0 end
+    → (accepted end ≡ lengthIn (length out) answer) × (now ≡ textIn out answer)
+unfolding lengthIn textIn
+written-in e v = (rw e (ap accepted (adds-end v)), rw (e, textIn) (adds-front v))
+
+module _ (f : List ℕ) where
+  -- The file's refusal, for each operation.
+  pub shown-refused : {n p : ℕ} → checkTask f ≡ refused n p → shown f ≡ refused n p
+  unfolding checkTask shown
+  shown-refused h = rw (not-made (λ (t : Task). tt) (readTask f) h)
+
+  pub drawn-refused : {n p : ℕ} → checkTask f ≡ refused n p → drawn f ≡ refused n p
+  unfolding checkTask drawn
+  drawn-refused h = rw (not-made (λ (t : Task). tt) (readTask f) h)
+
+  pub action-refused : (a : ℕ) {n p : ℕ} → checkTask f ≡ refused n p → drawnAction f a ≡ refused n p
+  unfolding checkTask drawnAction
+  action-refused a h = rw (not-made (λ (t : Task). tt) (readTask f) h)
+
+  -- ---- the task of an accepted file with this index
+
+  module _ {i : Index} (ready : Ready f i) where
+    abbrev t : Task
+    t = there f ready .task
+
+    -- the offset of each action
+    abbrev begins : List ℕ
+    begins = take (i .actions) (i .starts)
+
+    -- There is one for each.
+    pub begins-long : i .actions ≡ length begins
+    begins-long = sym (starts-count f ready ∙ there f ready .actions)
+
+    -- Where the head's parts stand, as code counts their bytes.
+    pub head-fits : 1 + i .variables + i .variables ≤ length f
+    head-fits = omega (arith, starts f ready .fits)
+
+    pub sizes-in : take (1 + i .variables - 1) (drop 1 f) ≡ t .sizes
+    sizes-in = let same : 1 + i .variables - 1 ≡ i .variables = omega arith in sizes-there f ready same
+
+    pub init-in : take (1 + i .variables + i .variables - (1 + i .variables)) (drop (1 + i .variables) f) ≡ t .init
+    init-in = let same : 1 + i .variables + i .variables - (1 + i .variables) ≡ i .variables = omega arith in ap (λ (k : ℕ). take k (drop (1 + i .variables) f)) same ∙ starts f ready .init
+
+    goal-in : partialAt f (1 + i .variables + i .variables) ≡ t .goal
+    goal-in = let same : 1 + i .variables + i .variables ≡ 1 + 2 * i .variables = omega arith in ap (partialAt f) same ∙ starts f ready .goal
+
+    -- The whole task.
+    pub shown-is : shown f ≡ accepted (taskText t)
+    unfolding shown
+    shown-is = rw (there f ready .reads)
+
+    -- The texts of the actions in place are those of the task's.
+    pub actions-text : {X : Type 0} (text : ℕ → Action → List X) {sizes : List ℕ} → sizes ≡ t .sizes
+        → rowFrom (λ a. text a (actionFor f sizes begins (i .firsts) (i .nodes) a)) 0 (length begins) ≡ flat text 0 (t .actions)
+    actions-text text {sizes} e =
+        sym (actions-row f text sizes begins (i .firsts) (i .nodes) 0 (length begins))
+        ∙ ap (flat text 0) (ap (λ (ds : List ℕ). actionsIn f ds begins (i .firsts) (i .nodes) 0 (length begins)) e ∙ actions-in-place f ready)
+
+    -- What is written, one part after the other, is the task's text.
+    pub task-text : {sizes init : List ℕ} → sizes ≡ t .sizes → init ≡ t .init
+        → rowFrom (λ v. variableText v (getD sizes v 0) (getD init v 0)) 0 (length sizes)
+        ++ (bytes "goal:" ++ (partialText (length sizes) (partialAt f (1 + i .variables + i .variables)) ++ (bytes "\n" ++ rowFrom (λ a. actionText (length sizes) a (actionFor f sizes begins (i .firsts) (i .nodes) a)) 0 (length begins))))
+        ≡ taskText t
+    unfolding taskText
+    task-text {sizes} {init} s h =
+        let names : rowFrom (λ v. variableText v (getD sizes v 0) (getD init v 0)) 0 (length sizes) ≡ flat (λ v size. variableText v size (getD (t .init) v 0)) 0 (t .sizes) =
+        rw (s, h) (sym (list-row (λ v size. variableText v size (getD (t .init) v 0)) (t .sizes) (t .sizes) 0 (λ k j l e. let same : j ≡ k = omega arith in rw same))) in
+        rw (names, goal-in, actions-text (actionText (length sizes)) s, s)
+
+    -- All diagrams.
+    pub drawn-is : drawn f ≡ accepted (drawing f i 0 (i .actions))
+    unfolding drawn drawing
+    drawn-is =
+        let count : i .actions - 0 ≡ length begins = omega (arith, begins-long) in
+        rw (there f ready .reads) (ap accepted (sym (drawing-text 0 (t .actions) (ap (rowFrom (λ a. dotAction a (actionFor f (take (1 + i .variables - 1) (drop 1 f)) begins (i .firsts) (i .nodes) a)) 0) count ∙ actions-text dotAction sizes-in))))
+
+    module _ (a : ℕ) where
+      -- There is no such action.
+      pub action-missing : i .actions ≤ a → drawnAction f a ≡ refused 11 0
+      unfolding drawnAction actionOf
+      action-missing l = rw (there f ready .reads, look-none (t .actions) a (omega (arith, there f ready .actions)), actionOf)
+
+      -- The diagram of one action.
+      pub action-is : a < i .actions → drawnAction f a ≡ accepted (drawing f i a (a + 1))
+      unfolding drawnAction actionOf drawing
+      action-is l =
+          let x = at-some (t .actions) a (omega (arith, there f ready .actions)) in
+          let same : actionFor f (take (1 + i .variables - 1) (drop 1 f)) begins (i .firsts) (i .nodes) a ≡ x .0 = rw sizes-in (action-here f (located f ready .lies t (there f ready .reads) a (x .0) (x .1))) in
+          rw (there f ready .reads, look (x .1), actionOf)
+          (ap accepted (sym (drawing-text a (x .0 ∷ []) (row-one (λ a. dotAction a (actionFor f (take (1 + i .variables - 1) (drop 1 f)) begins (i .firsts) (i .nodes) a)) a ∙ ap (λ (y : Action). dotAction a y ++ []) same))))

@@ -1,0 +1,38 @@
+-- Rows of texts, and the parts of a task in place by number.
+use Prim.Native.Nat.{ℕ, zero, suc, _+_, _*_, _-_}
+use mathlib.Core.List.{List, [], _++_}
+use lib.ListN.{getD, take, drop}
+use Rattle.taskfile.specs.Task.{Edge, Node, Action}
+use Rattle.taskfile.specs.TaskFile.{edgeBytes}
+use Rattle.taskfile.specs.Index.{Index}
+use Rattle.taskfile.specs.PartsInPlace.{edgeIn, nodeIn, actionIn}
+use Rattle.text.specs.Append.{bytes, Adds}
+use Rattle.words.specs.Dot.{dotAction}
+
+-- what f gives for each of `count` numbers from i on, each straight after the last one's
+abbrev pub rowFrom : {X : Type 0} → (ℕ → List X) → ℕ → ℕ → List X
+rowFrom f i zero = []
+rowFrom f i (suc count) = f i ++ rowFrom f (suc i) count
+
+-- two texts were written, one straight after the other
+pub record AddsTwo (xs ys before now : List ℕ) (at end : ℕ) : Type 0 where
+  pub adds : Adds (xs ++ ys) before now at end
+
+-- the file f
+module _ (f : List ℕ) where
+  -- the edge for the value d of the node at an offset
+  abbrev pub edgeFor : ℕ → ℕ → Edge
+  edgeFor node d = edgeIn f (node + (1 + edgeBytes * d))
+
+  -- the node at index j, where these are the offsets of an action's nodes
+  abbrev pub nodeFor : List ℕ → List ℕ → ℕ → Node
+  nodeFor sizes offsets j = nodeIn f sizes (getD offsets j 0)
+
+  -- action number a: `starts` has the offset of each, `firsts` the index of its first node in `nodes`
+  abbrev pub actionFor : List ℕ → List ℕ → List ℕ → List ℕ → ℕ → Action
+  actionFor sizes starts firsts nodes a = actionIn f sizes (getD starts a 0) (drop (getD firsts a 0) nodes)
+
+  -- the cost diagrams of the actions from one number up to another, in one drawing
+  unfoldable pub drawing : Index → ℕ → ℕ → List ℕ
+  drawing i from end =
+      bytes "digraph costs {\n" ++ (rowFrom (λ a. dotAction a (actionFor (take (1 + i .variables - 1) (drop 1 f)) (take (i .actions) (i .starts)) (i .firsts) (i .nodes) a)) from (end - from) ++ bytes "}\n")
