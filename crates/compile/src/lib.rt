@@ -46,7 +46,14 @@ fn compile_in(
     if out.len() < needed {
         return Compiled::Refused(Refusal::Short(needed));
     }
-    let at = probe_writer::head::put_head(file, variables, action_at, incoming_at, extent.steps, out);
+    let at = probe_writer::head::put_head(
+        file,
+        variables,
+        action_at,
+        incoming_at,
+        extent.steps,
+        out,
+    );
     let written = probe_writer::action::put_actions(
         file,
         sizes,

@@ -2,12 +2,12 @@
 mod find;
 mod lines;
 
-use words::Described;
 use facts::Checked;
 use facts::Refusal;
 use probefile::Probe;
 use taskfile::Counted;
 use taskfile::Task;
+use words::Described;
 ghost use mathlib.Core.Path.{_≡_};
 ghost use lib.ListN.{length};
 ghost use Rattle.taskfile.specs.Index.{indexOf, Ready};

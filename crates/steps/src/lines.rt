@@ -2,11 +2,11 @@
 use crate::find::Name;
 use crate::find::Sought;
 use crate::find::find_step;
-use words::words::put_numbered;
 use facts::Checked;
 use facts::Refusal;
 use text::append::append;
 use text::append::append_number;
+use words::words::put_numbered;
 ghost use mathlib.Core.Path.{_≡_};
 ghost use Prim.Native.Nat.{_+_, _*_, _≤_};
 ghost use lib.ListN.{length};

@@ -5,7 +5,6 @@ use Prim.Native.Nat.{ℕ, zero, suc, _+_, _*_, _≤_, _<_}
 use native.Mathlib.Omega.{arith}
 use mathlib.Core.List.{List, [], _∷_}
 use lib.ListN.{length, getD, take, drop, getElem?}
-use lib.Seq.{length-take-le}
 use Rattle.facts.specs.Read.{Read, accepted, refused, _>>=_}
 use Rattle.facts.specs.ReadLaws.{made, not-made}
 use Rattle.facts.specs.Lists.{At}
@@ -21,9 +20,10 @@ use Rattle.taskfile.specs.TaskFile.{readTask, checkTask, actionOf, askTa
 use Rattle.taskfile.specs.TaskReadLaws.{task-read, task-limits}
 use Rattle.taskfile.specs.WalkInPlace.{walkAt, moveAt, runList}
 use Rattle.taskfile.specs.WalkInPlaceLaws.{walk-in-place}
-use Rattle.taskfile.specs.MoveInPlaceLaws.{located-actions, sum-in-place}
+use Rattle.taskfile.specs.MoveInPlaceLaws.{sum-in-place}
+use Rattle.taskfile.specs.Row.{ownFrom}
 use Rattle.taskfile.specs.InPlace.{taskAt}
-use Rattle.taskfile.specs.Index.{Index, Ready}
+use Rattle.taskfile.specs.Index.{Ready}
 
 look-none : {A : Type 0} (xs : List A) (k : ℕ) → length xs ≤ k → getElem? xs k ≡ none
 look-none [] k l = refl
@@ -40,13 +40,13 @@ pub run-refused : (f list : List ℕ) {n p : ℕ} → checkTask f ≡ refused n 
 unfolding checkTask runTask
 run-refused f list h = rw (not-made (λ (t : Task). tt) (readTask f) h)
 
-module _ (f : List ℕ) {i : Index} (ready : Ready f i) where
+module _ (f : List ℕ) {n count : ℕ} {row : List ℕ} (ready : Ready f n count row) where
   -- the task that is there
   pub record There : Type 0 where
     pub task : Task
     pub reads : readTask f ≡ accepted task
-    pub variables : length (task .sizes) ≡ i .variables
-    pub actions : length (task .actions) ≡ i .actions
+    pub variables : length (task .sizes) ≡ n
+    pub actions : length (task .actions) ≡ count
 
   pub there : There
   unfolding taskAt
@@ -59,12 +59,12 @@ module _ (f : List ℕ) {i : Index} (ready : Ready f i) where
 
   -- what the file's head says, and where its initial values and its goal stand
   pub record Starts : Type 0 where
-    pub variables : i .variables ≤ 24
-    pub actions : i .actions ≤ 32
-    pub fits : 1 + 2 * i .variables ≤ length f
-    pub sizes : take (i .variables) (drop 1 f) ≡ t .sizes
-    pub init : take (i .variables) (drop (1 + i .variables) f) ≡ t .init
-    pub goal : partialAt f (1 + 2 * i .variables) ≡ t .goal
+    pub variables : n ≤ 24
+    pub actions : count ≤ 32
+    pub fits : 1 + 2 * n ≤ length f
+    pub sizes : take (n) (drop 1 f) ≡ t .sizes
+    pub init : take (n) (drop (1 + n) f) ≡ t .init
+    pub goal : partialAt f (1 + 2 * n) ≡ t .goal
 
   pub starts : Starts
   starts =
@@ -82,25 +82,21 @@ module _ (f : List ℕ) {i : Index} (ready : Ready f i) where
       }
 
   -- the domain sizes
-  pub sizes-there : {k : ℕ} → k ≡ i .variables → take k (drop 1 f) ≡ t .sizes
+  pub sizes-there : {k : ℕ} → k ≡ n → take k (drop 1 f) ≡ t .sizes
   sizes-there e = ap (λ (j : ℕ). take j (drop 1 f)) e ∙ starts .sizes
-
-  -- one start for each action
-  pub starts-count : length (take (i .actions) (i .starts)) ≡ length (t .actions)
-  starts-count = length-take-le (i .actions) (i .starts) (omega (arith, ready .starts-long, starts .actions)) ∙ sym (there .actions)
 
   -- ---- what is asked about an action
 
-  action-missing : (a : ℕ) → i .actions ≤ a → actionOf (t .actions) a ≡ refused 11 0
+  action-missing : (a : ℕ) → count ≤ a → actionOf (t .actions) a ≡ refused 11 0
   unfolding actionOf
   action-missing a l = rw (look-none (t .actions) a (omega (arith, there .actions)), actionOf)
 
   module _ (checked : List ℕ → List ℕ → Read (Unit {0})) (answer : Action → List ℕ → ℕ) (a : ℕ) (s : List ℕ) where
-    pub ask-missing : i .actions ≤ a → askTask checked answer f a s ≡ refused 11 0
+    pub ask-missing : count ≤ a → askTask checked answer f a s ≡ refused 11 0
     unfolding askTask
     ask-missing l = rw (there .reads) (ap (λ (r : Read Action). _>>=_ r (λ x. _>>=_ (checked (t .sizes) s) (λ u. accepted (answer x s)))) (action-missing a l))
 
-    module _ (l : a < i .actions) where
+    module _ (l : a < count) where
       abbrev none-such : Action
       none-such = record { pre = record { map = 0; values = [] }; eff = record { map = 0; values = [] }; incoming = 0; nodes = [] }
 
@@ -114,7 +110,7 @@ module _ (f : List ℕ) {i : Index} (ready : Ready f i) where
       unfolding actionOf
       x-is = rw (look x-there, actionOf)
 
-      module _ {k : ℕ} (e : k ≡ i .variables) where
+      module _ {k : ℕ} (e : k ≡ n) where
         pub ask-state : {n p : ℕ} → checked (take k (drop 1 f)) s ≡ refused n p → askTask checked answer f a s ≡ refused n p
         unfolding askTask
         ask-state h = rw (there .reads, x-is, ap (λ (ds : List ℕ). checked ds s) (sym (sizes-there e)) ∙ h)
@@ -129,15 +125,13 @@ module _ (f : List ℕ) {i : Index} (ready : Ready f i) where
 
   -- the cost of the action that is there, by its walk in place
   pub walk-cost : (a : ℕ) (s : List ℕ) {u : Unit {0}} {x : Action} → At (t .actions) a x → checkState (t .sizes) s ≡ accepted u
-      → walkAt f (getD (i .starts) a 0) (drop (getD (i .firsts) a 0) (i .nodes)) s .cost ≡ cost x s
+      → walkAt f (getD row a 0) (drop (ownFrom row a) row) s .cost ≡ cost x s
   walk-cost a s {x = x} h ok = ap (λ (w : Walk). w .cost) (walk-in-place f (ready .located .lies t (there .reads) a x h) s (state-inside (t .sizes) s ok))
 
   -- ---- runs
 
-  pub run-is : (list : List ℕ)
-      → runTask f list
-      ≡ runList (length (take (i .actions) (i .starts))) (moveAt f (take (i .actions) (i .starts)) (i .firsts) (i .nodes)) (partialAt f (1 + 2 * i .variables)) list (take (i .variables) (drop (1 + i .variables) f))
+  pub run-is : (list : List ℕ) → runTask f list ≡ runList count (moveAt f row) (partialAt f (1 + 2 * n)) list (take n (drop (1 + n) f))
   unfolding runTask runList
   run-is list =
       rw (there .reads)
-      (ap (λ (sum : Read ℕ). _>>=_ (atMost maxList list) (λ u. sum)) (sym (sum-in-place f (there .reads) (located-actions f (there .reads) (ready .located) (i .actions) (omega (arith, there .actions))) starts-count (1 + 2 * i .variables) list (take (i .variables) (drop (1 + i .variables) f)) (starts .init) (starts .goal))))
+      (ap (λ (sum : Read ℕ). _>>=_ (atMost maxList list) (λ u. sum)) (sym (sum-in-place f (there .reads) (ready .located) (sym (there .actions)) (1 + 2 * n) list (take n (drop (1 + n) f)) (starts .init) (starts .goal))))

@@ -10,6 +10,7 @@ use Rattle.facts.specs.Partial.{pastPartial}
 use Rattle.facts.specs.Fields.{each, nextOf}
 use Rattle.taskfile.specs.Task.{Node, Action, Task, maxNodes}
 use Rattle.taskfile.specs.TaskFile.{edgeBytes, readNode, readNodes, readDiagram, readAction, readActions, readTask}
+use Rattle.taskfile.specs.Row.{effectsFrom, incomingFrom, firstsFrom, ownFrom}
 use Rattle.taskfile.specs.WalkInPlace.{incomingPlace}
 use Rattle.taskfile.specs.PartsInPlace.{Tested}
 
@@ -86,25 +87,6 @@ pub record Lies (f sizes : List ℕ) (x : Action) (at first : ℕ) (nodes : List
   pub node : (j : ℕ) (nd : Node) → At (x .nodes) j nd → (end : ℕ) × (readNode f sizes (length (x .nodes)) (suc j) (getD nodes (first + j) 0) ≡ accepted (nd, end))
   pub tested : (j : ℕ) (nd : Node) → At (x .nodes) j nd → getD nodes (first + (maxNodes + j)) 0 ≡ nd .var
 
--- The row of an index: the offset of each action, and from these entries on where its effect and its incoming weight stand, which of all nodes is its first, where each node starts and which variable it tests; and how long the row is.
-abbrev pub effectsFrom : ℕ
-effectsFrom = 32
-
-abbrev pub incomingFrom : ℕ
-incomingFrom = 64
-
-abbrev pub firstsFrom : ℕ
-firstsFrom = 96
-
-abbrev pub nodesFrom : ℕ
-nodesFrom = 128
-
-abbrev pub testedFrom : ℕ
-testedFrom = 192
-
-abbrev pub rowLong : ℕ
-rowLong = testedFrom + maxNodes
-
 -- the row with the places of effect and incoming weight of action a, which begins at an offset
 abbrev pub frontNoted : List ℕ → ℕ → ℕ → List ℕ → List ℕ
 frontNoted f at a places = set (set places (effectsFrom + a) (pastPartial f at)) (incomingFrom + a) (incomingPlace f at)
@@ -119,10 +101,10 @@ abbrev pub nodesBefore : List Action → ℕ → ℕ
 nodesBefore actions a = total (λ x. length (x .nodes)) (take a actions)
 
 -- the same for each of the `count` actions from an offset on, where all are accepted; an action's first node comes after the nodes of those before it
-pub record Listed (f sizes : List ℕ) (count from : ℕ) (actions firsts nodes : List ℕ) : Type 0 where
+pub record Listed (f sizes : List ℕ) (count from : ℕ) (row : List ℕ) : Type 0 where
   pub lies : (xs : List Action) (end : ℕ) → readActions f sizes count maxNodes from ≡ accepted (xs, end) → (a : ℕ) (x : Action) → At xs a x
-      → Lies f sizes x (getD actions a 0) (getD firsts a 0) nodes
-  pub first-is : (xs : List Action) (end : ℕ) → readActions f sizes count maxNodes from ≡ accepted (xs, end) → (a : ℕ) (x : Action) → At xs a x → getD firsts a 0 ≡ nodesBefore xs a
+      → Lies f sizes x (getD row a 0) (ownFrom row a) row
+  pub first-is : (xs : List Action) (end : ℕ) → readActions f sizes count maxNodes from ≡ accepted (xs, end) → (a : ℕ) (x : Action) → At xs a x → getD row (firstsFrom + a) 0 ≡ nodesBefore xs a
 
 -- ---- a whole file
 
@@ -131,6 +113,6 @@ unfoldable pub taskAt : List ℕ → Read (ℕ × ℕ)
 taskAt f = withValue (λ t. (length (t .sizes), length (t .actions))) (readTask f)
 
 -- the offset of each action of an accepted file, the number of its first node among all nodes, and the offset and the variable of each node
-pub record Located (f actions firsts nodes : List ℕ) : Type 0 where
-  pub lies : (t : Task) → readTask f ≡ accepted t → (a : ℕ) (x : Action) → At (t .actions) a x → Lies f (t .sizes) x (getD actions a 0) (getD firsts a 0) nodes
-  pub first-is : (t : Task) → readTask f ≡ accepted t → (a : ℕ) (x : Action) → At (t .actions) a x → getD firsts a 0 ≡ nodesBefore (t .actions) a
+pub record Located (f row : List ℕ) : Type 0 where
+  pub lies : (t : Task) → readTask f ≡ accepted t → (a : ℕ) (x : Action) → At (t .actions) a x → Lies f (t .sizes) x (getD row a 0) (ownFrom row a) row
+  pub first-is : (t : Task) → readTask f ≡ accepted t → (a : ℕ) (x : Action) → At (t .actions) a x → getD row (firstsFrom + a) 0 ≡ nodesBefore (t .actions) a

@@ -6,8 +6,8 @@ use native.Mathlib.Nat.{suc-add, zero-add, sub-zero, lt-of-not-le}
 use native.Mathlib.Decide.{decLe}
 use native.Mathlib.Omega.{arith}
 use mathlib.Core.List.{List, [], _∷_, _++_}
-use lib.ListN.{length, getD, set, drop, length-set, length-drop}
-use lib.Seq.{take-append-le, take-at, drop-set-add, getD-drop, getD-set-same, getD-set-other}
+use lib.ListN.{length, getD, set, length-set}
+use lib.Seq.{take-append-le, take-at, getD-set-same, getD-set-other}
 use Rattle.facts.specs.Read.{Read, accepted, refused, withValue, _>>=_}
 use Rattle.facts.specs.ReadLaws.{not-refused, through, made, not-made, value-of, next-of}
 use Rattle.facts.specs.Lists.{total, At, here, there}
@@ -17,9 +17,10 @@ use Rattle.facts.specs.Fields.{nextOf, readPartial, Operator, readOperator}
 use Rattle.facts.specs.InPlaceLaws.{past-read}
 use Rattle.facts.specs.PartialReadLaws.{partial-read}
 use Rattle.taskfile.specs.Task.{Node, Action, maxActions, maxNodes}
-use Rattle.taskfile.specs.TaskFile.{readNode, readDiagram, readAction, readActions}
+use Rattle.taskfile.specs.TaskFile.{readDiagram, readAction, readActions}
 use Rattle.taskfile.specs.TaskReadLaws.{action-read, action-nodes}
-use Rattle.taskfile.specs.InPlace.{diagramAt, Placed, actionAt, Action-placed, Lies, effectsFrom, incomingFrom, firstsFrom, nodesFrom, rowLong, frontNoted, Fronts, nodesBefore, Listed}
+use Rattle.taskfile.specs.Row.{effectsFrom, incomingFrom, firstsFrom, nodesFrom, rowLong, ownFrom}
+use Rattle.taskfile.specs.InPlace.{diagramAt, Placed, actionAt, Action-placed, Lies, frontNoted, Fronts, nodesBefore, Listed}
 use Rattle.taskfile.specs.WalkInPlace.{incomingPlace}
 
 -- the number of nodes of an action
@@ -201,18 +202,53 @@ fronts-more {f} {places} {a} at h few long = record {
     own : getD (frontNoted f at a (set places a at)) a 0 ≡ at
     own = front-keeps f (set places a at) a at few a few ∙ getD-set-same places a at 0 (omega (arith, few, long))
 
+-- ---- what is noted of an action before its nodes
+
+-- the row with the offset of action a and the number of its first node
+abbrev pub startNoted : ℕ → ℕ → ℕ → List ℕ → List ℕ
+startNoted a at used row = set (set row (firstsFrom + a) used) a at
+
+module _ (f row : List ℕ) (a at used : ℕ) (few : a < maxActions) where
+  abbrev after : List ℕ
+  after = frontNoted f at a (startNoted a at used row)
+
+  -- no entry but the action's own changes
+  start-other : (k : ℕ) → (k ≡ a → ⊥) → (k ≡ effectsFrom + a → ⊥) → (k ≡ incomingFrom + a → ⊥) → (k ≡ firstsFrom + a → ⊥) → getD after k 0 ≡ getD row k 0
+  start-other k o e i n = front-other f (startNoted a at used row) a at few k e i ∙ getD-set-other (set row (firstsFrom + a) used) a k at 0 o ∙ getD-set-other row (firstsFrom + a) k used 0 n
+
+  -- above all none about nodes
+  start-nodes : (j : ℕ) → getD after (nodesFrom + j) 0 ≡ getD row (nodesFrom + j) 0
+  start-nodes j = start-other (nodesFrom + j) (λ q. omega (arith, few, q)) (λ q. omega (arith, few, q)) (λ q. omega (arith, few, q)) (λ q. omega (arith, few, q))
+
+  module _ (b : ℕ) (l : b < a) where
+    start-before : getD after b 0 ≡ getD row b 0
+    start-before = start-other b (λ q. omega (arith, l, q)) (λ q. omega (arith, l, few, q)) (λ q. omega (arith, l, few, q)) (λ q. omega (arith, l, few, q))
+
+    first-before : getD after (firstsFrom + b) 0 ≡ getD row (firstsFrom + b) 0
+    first-before = start-other (firstsFrom + b) (λ q. omega (arith, few, q)) (λ q. omega (arith, few, q)) (λ q. omega (arith, few, q)) (λ q. omega (arith, l, q))
+
+  module _ (long : rowLong ≤ length row) where
+    start-own : getD after a 0 ≡ at
+    start-own = front-keeps f (startNoted a at used row) a at few a few ∙ getD-set-same (set row (firstsFrom + a) used) a at 0 (omega (arith, few, long, length-set row (firstsFrom + a) used))
+
+    first-own : getD after (firstsFrom + a) 0 ≡ used
+    first-own =
+        front-other f (startNoted a at used row) a at few (firstsFrom + a) (λ q. omega (arith, q)) (λ q. omega (arith, q)) ∙ getD-set-other (set row (firstsFrom + a) used) a (firstsFrom + a) at 0 (λ q. omega (arith, q))
+        ∙ getD-set-same row (firstsFrom + a) used 0 (omega (arith, few, long))
+
 -- ---- the pass over the actions: a of them are read, up to an offset, and have `used` nodes
 
-pub record Going (f sizes : List ℕ) (a from at used : ℕ) (actions firsts nodes : List ℕ) : Type 0 where
+pub record Going (f sizes : List ℕ) (a from at used : ℕ) (row : List ℕ) : Type 0 where
   pub done : List Action
   pub reads : readActions f sizes a maxNodes from ≡ accepted (done, at)
   pub uses : total size done ≡ used
   pub within : used ≤ maxNodes
-  pub lies : (b : ℕ) (x : Action) → At done b x → Lies f sizes x (getD actions b 0) (getD firsts b 0) nodes × (getD firsts b 0 + size x ≤ used) × (getD firsts b 0 ≡ nodesBefore done b)
+  pub lies : (b : ℕ) (x : Action) → At done b x → Lies f sizes x (getD row b 0) (ownFrom row b) row × (getD row (firstsFrom + b) 0 + size x ≤ used) × (getD row (firstsFrom + b) 0 ≡ nodesBefore done b)
+  pub fronts : Fronts f a row
 
-pub going-start : (f sizes : List ℕ) (from : ℕ) (actions firsts nodes : List ℕ) → Going f sizes 0 from from 0 actions firsts nodes
+pub going-start : (f sizes : List ℕ) (from : ℕ) (row : List ℕ) → Going f sizes 0 from from 0 row
 unfolding readActions
-going-start f sizes from actions firsts nodes = record { done = []; reads = refl; uses = refl; within = omega arith; lies = λ b x a. absurd (at-none a) }
+going-start f sizes from row = record { done = []; reads = refl; uses = refl; within = omega arith; lies = λ b x a. absurd (at-none a); fronts = fronts-none }
 
 total-snoc : (xs : List Action) (x : Action) → total size (xs ++ (x ∷ [])) ≡ total size xs + size x
 total-snoc [] x = omega arith
@@ -225,62 +261,76 @@ snoc-at [] y (there a) = absurd (at-none a)
 snoc-at (z ∷ xs) y here = inl here
 snoc-at (z ∷ xs) y (there a) = elim (snoc-at xs y a) [ inl g ↦ inl (there g) | inr g ↦ inr (ap suc (g .0), g .1) ]
 
-module _ {f sizes : List ℕ} {a from at used : ℕ} {actions firsts nodes : List ℕ} (g : Going f sizes a from at used actions firsts nodes) where
+module _ {f sizes : List ℕ} {a from at used : ℕ} {row : List ℕ} (g : Going f sizes a from at used row) where
   abbrev left : ℕ
   left = maxNodes - used
 
   count-is : length (g .done) ≡ a
   count-is = actions-count f sizes a maxNodes from (g .reads)
 
-  going-more : {next : ℕ} {x : Action} {nodes′ : List ℕ} → a < length actions → a < length firsts → readAction f sizes left at ≡ accepted (x, next) → Action-placed f sizes left at used nodes nodes′
-      → Going f sizes (a + 1) from next (used + size x) (set actions a at) (set firsts a used) nodes′
-  going-more {next} {x} {nodes′} l m r p = record {
-    done = g .done ++ (x ∷ []);
-    reads = actions-snoc f sizes a maxNodes from (g .reads) (ap (λ (k : ℕ). readAction f sizes (maxNodes - k) at) (g .uses) ∙ r);
-    uses = total-snoc (g .done) x ∙ ap (λ (k : ℕ). k + size x) (g .uses);
-    within = omega (arith, g .within, action-nodes f (action-read f sizes left at r));
-    lies = λ b y i. elim (snoc-at (g .done) x i) [
-      | inl j ↦
-          let o = g .lies b y j in
-          let n : b < a = omega (arith, at-length j, count-is) in
-          rw (getD-set-other actions a b at 0 (λ q. omega arith), getD-set-other firsts a b used 0 (λ q. omega arith)) (
-            record {
-              left = o .0 .left;
-              next = o .0 .next;
-              action = o .0 .action;
-              node = λ k nd h. rw (p .kept (getD firsts b 0 + k) (omega (arith, at-length h))) (o .0 .node k nd h);
-              tested = λ k nd h. p .kept-tested (getD firsts b 0 + (maxNodes + k)) (omega (arith, g .within)) (omega (arith, at-length h)) ∙ o .0 .tested k nd h;
-            },
-            omega arith,
-            o .2 ∙ ap (total size) (sym (take-append-le b (g .done) (x ∷ []) (omega (arith, at-length j)))),
-          )
-      | inr j ↦
-          let n : b ≡ a = j .0 ∙ count-is in
-          subst (λ (z : Action). Lies f sizes z (getD (set actions a at) b 0) (getD (set firsts a used) b 0) nodes′ × (getD (set firsts a used) b 0 + size z ≤ used + size x) × (getD (set firsts a used) b 0 ≡ nodesBefore (g .done ++ (x ∷ [])) b)) (j .1)
-          (rw (n, getD-set-same actions a at 0 l, getD-set-same firsts a used 0 m) (
-            record { left = left; next = next; action = r; node = λ k nd h. p .lies x next r k nd h; tested = λ k nd h. p .tested x next r k nd h },
-            omega arith,
-            sym (ap (total size) (take-at (g .done) (x ∷ []) a count-is) ∙ g .uses),
-          ))
-    ];
-  }
+  module _ (few : a < maxActions) (long : rowLong ≤ length row) {next : ℕ} {x : Action} {row′ : List ℕ} (r : readAction f sizes left at ≡ accepted (x, next)) (p : Action-placed f sizes left at (nodesFrom + used) (frontNoted f at a (startNoted a at used row)) row′) where
+    -- what is noted of an action that was read before stays
+    lies-before : {b : ℕ} {y : Action} → b < a → Lies f sizes y (getD row b 0) (ownFrom row b) row → getD row (firstsFrom + b) 0 + size y ≤ used → Lies f sizes y (getD row′ b 0) (ownFrom row′ b) row′
+    lies-before {b} {y} l o within =
+        let first = getD row (firstsFrom + b) 0 in
+        let entry : (j : ℕ) → j < used → getD row′ (nodesFrom + j) 0 ≡ getD row (nodesFrom + j) 0 = λ j h. p .kept (nodesFrom + j) (omega (arith, h)) ∙ start-nodes f row a at used few j in
+        let test : (j : ℕ) → maxNodes ≤ j → j < maxNodes + used → getD row′ (nodesFrom + j) 0 ≡ getD row (nodesFrom + j) 0 = λ j h k. p .kept-tested (nodesFrom + j) (omega (arith, h, g .within)) (omega (arith, k)) ∙ start-nodes f row a at used few j in
+        rw (p .kept b (omega (arith, l, few)) ∙ start-before f row a at used few b l, p .kept (firstsFrom + b) (omega (arith, l, few)) ∙ first-before f row a at used few b l)
+        record {
+          left = o .left;
+          next = o .next;
+          action = o .action;
+          node = λ k nd h.
+              let i : nodesFrom + (first + k) ≡ nodesFrom + first + k = omega arith in
+              let same : getD row′ (nodesFrom + first + k) 0 ≡ getD row (nodesFrom + first + k) 0 = subst (λ (i : ℕ). getD row′ i 0 ≡ getD row i 0) i (entry (first + k) (omega (arith, at-length h, within))) in
+              rw same (o .node k nd h);
+          tested = λ k nd h.
+              let i : nodesFrom + (first + (maxNodes + k)) ≡ nodesFrom + first + (maxNodes + k) = omega arith in
+              subst (λ (i : ℕ). getD row′ i 0 ≡ getD row i 0) i (test (first + (maxNodes + k)) (omega arith) (omega (arith, at-length h, within))) ∙ o .tested k nd h;
+        }
 
-  -- other entries may change
-  going-kept : {actions′ firsts′ : List ℕ} → ((b : ℕ) → b < a → getD actions′ b 0 ≡ getD actions b 0) → ((b : ℕ) → b < a → getD firsts′ b 0 ≡ getD firsts b 0) → Going f sizes a from at used actions′ firsts′ nodes
-  going-kept h k = record {
-    done = g .done;
-    reads = g .reads;
-    uses = g .uses;
-    within = g .within;
-    lies = λ b x i. rw (h b (omega (arith, at-length i, count-is)), k b (omega (arith, at-length i, count-is))) (g .lies b x i);
-  }
+    own-start : getD row′ a 0 ≡ at
+    own-start = p .kept a (omega (arith, few)) ∙ start-own f row a at used few long
+
+    own-first : getD row′ (firstsFrom + a) 0 ≡ used
+    own-first = p .kept (firstsFrom + a) (omega (arith, few)) ∙ first-own f row a at used few long
+
+    -- and its own is noted
+    lies-own : Lies f sizes x (getD row′ a 0) (ownFrom row′ a) row′
+    lies-own = rw (own-start, own-first) record { left = left; next = next; action = r; node = p .lies x next r; tested = p .tested x next r }
+
+    fronts-all : Fronts f (a + 1) row′
+    fronts-all =
+        let first = set row (firstsFrom + a) used in
+        let start : Fronts f a first = fronts-kept (omega (arith, few)) (λ k l. getD-set-other row (firstsFrom + a) k used 0 (λ q. omega (arith, l, q))) (g .fronts) in
+        fronts-kept (omega (arith, few)) (λ k l. p .kept k (omega (arith, l))) (fronts-more at start few (omega (arith, long, length-set row (firstsFrom + a) used)))
+
+    going-more : Going f sizes (a + 1) from next (used + size x) row′
+    going-more = record {
+      done = g .done ++ (x ∷ []);
+      reads = actions-snoc f sizes a maxNodes from (g .reads) (ap (λ (k : ℕ). readAction f sizes (maxNodes - k) at) (g .uses) ∙ r);
+      uses = total-snoc (g .done) x ∙ ap (λ (k : ℕ). k + size x) (g .uses);
+      within = omega (arith, g .within, action-nodes f (action-read f sizes left at r));
+      lies = λ b y i. elim (snoc-at (g .done) x i) [
+        | inl j ↦
+            let o = g .lies b y j in
+            let l : b < a = omega (arith, at-length j, count-is) in
+            let first : getD row′ (firstsFrom + b) 0 ≡ getD row (firstsFrom + b) 0 = p .kept (firstsFrom + b) (omega (arith, l, few)) ∙ first-before f row a at used few b l in
+            (lies-before l (o .0) (o .1), omega (arith, first, o .1), first ∙ o .2 ∙ ap (total size) (sym (take-append-le b (g .done) (x ∷ []) (omega (arith, at-length j)))))
+        | inr j ↦
+            let n : b ≡ a = j .0 ∙ count-is in
+            subst (λ (z : Action). Lies f sizes z (getD row′ b 0) (ownFrom row′ b) row′ × (getD row′ (firstsFrom + b) 0 + size z ≤ used + size x) × (getD row′ (firstsFrom + b) 0 ≡ nodesBefore (g .done ++ (x ∷ [])) b)) (j .1)
+            (rw n (lies-own, omega (arith, own-first), own-first ∙ sym (ap (total size) (take-at (g .done) (x ∷ []) a count-is) ∙ g .uses)))
+      ];
+      fronts = fronts-all;
+    }
 
   -- one more, by what a reader knows that goes past it
-  going-next : {next m : ℕ} {nodes′ : List ℕ} → a < length actions → a < length firsts → actionAt f sizes left at ≡ accepted (next, m) → Action-placed f sizes left at used nodes nodes′
-      → Going f sizes (a + 1) from next (used + m) (set actions a at) (set firsts a used) nodes′
-  going-next {next} {nodes′ = nodes′} l k r p =
+  pub going-next : a < maxActions → rowLong ≤ length row → {next m : ℕ} {row′ : List ℕ} → actionAt f sizes left at ≡ accepted (next, m) → Action-placed f sizes left at (nodesFrom + used) (frontNoted f at a (startNoted a at used row)) row′
+      → Going f sizes (a + 1) from next (used + m) row′
+  going-next few long {next} {row′ = row′} r p =
       let o = action-is f sizes left at r in
-      subst (λ (m : ℕ). Going f sizes (a + 1) from next (used + m) (set actions a at) (set firsts a used) nodes′) (o .2) (going-more l k (o .1) p)
+      subst (λ (m : ℕ). Going f sizes (a + 1) from next (used + m) row′) (o .2) (going-more few long (o .1) p)
 
   -- and none more
   pub going-stop : {count n p : ℕ} → a < count → actionAt f sizes left at ≡ refused n p → nextOf (readActions f sizes count maxNodes from) ≡ refused n p
@@ -290,72 +340,14 @@ module _ {f sizes : List ℕ} {a from at used : ℕ} {actions firsts nodes : Lis
   pub going-end : {count : ℕ} → a ≡ count → nextOf (readActions f sizes count maxNodes from) ≡ accepted at
   going-end e = rw (← e) (ap nextOf (g .reads))
 
-  pub going-listed : {count : ℕ} → a ≡ count → Listed f sizes count from actions firsts nodes
+  pub going-listed : {count : ℕ} → a ≡ count → Listed f sizes count from row
   going-listed e = rw (← e) (record {
     lies = λ xs end r b x i. g .lies b x (subst (λ (ys : List Action). At ys b x) (value-of (sym r ∙ g .reads)) i) .0;
-    first-is = λ xs end r b x i. let same = value-of (sym r ∙ g .reads) in subst (λ (ys : List Action). getD firsts b 0 ≡ nodesBefore ys b) (sym same) (g .lies b x (subst (λ (ys : List Action). At ys b x) same i) .2);
+    first-is = λ xs end r b x i. let same = value-of (sym r ∙ g .reads) in subst (λ (ys : List Action). getD row (firstsFrom + b) 0 ≡ nodesBefore ys b) (sym same) (g .lies b x (subst (λ (ys : List Action). At ys b x) same i) .2);
   })
 
-pub listed-none : (f sizes : List ℕ) (count from : ℕ) (actions firsts nodes : List ℕ) {n p : ℕ} → nextOf (readActions f sizes count maxNodes from) ≡ refused n p → Listed f sizes count from actions firsts nodes
-listed-none f sizes count from actions firsts nodes h = record {
+pub listed-none : (f sizes : List ℕ) (count from : ℕ) (row : List ℕ) {n p : ℕ} → nextOf (readActions f sizes count maxNodes from) ≡ refused n p → Listed f sizes count from row
+listed-none f sizes count from row h = record {
   lies = λ xs end r a x i. absurd (not-refused (sym (not-made (λ (p : List Action × ℕ). p .1) (readActions f sizes count maxNodes from) h) ∙ r));
   first-is = λ xs end r a x i. absurd (not-refused (sym (not-made (λ (p : List Action × ℕ). p .1) (readActions f sizes count maxNodes from) h) ∙ r));
 }
-
--- ---- the same in one row
-
--- the row with the offset of action a and the number of its first node
-abbrev pub startNoted : ℕ → ℕ → ℕ → List ℕ → List ℕ
-startNoted a at used row = set (set row (firstsFrom + a) used) a at
-
--- the actions up to here are read and noted, with the places of their effects and incoming weights
-pub record Rowed (f sizes : List ℕ) (a from at used : ℕ) (row : List ℕ) : Type 0 where
-  pub going : Going f sizes a from at used row (drop firstsFrom row) (drop nodesFrom row)
-  pub fronts : Fronts f a row
-
-pub rowed-start : (f sizes : List ℕ) (from : ℕ) (row : List ℕ) → Rowed f sizes 0 from from 0 row
-rowed-start f sizes from row = record { going = going-start f sizes from row (drop firstsFrom row) (drop nodesFrom row); fronts = fronts-none }
-
-module _ {f sizes : List ℕ} {a from at used : ℕ} {row : List ℕ} (g : Rowed f sizes a from at used row) (few : a < maxActions) (long : rowLong ≤ length row) where
-  abbrev first : List ℕ
-  first = set row (firstsFrom + a) used
-
-  -- one more: what its diagram's reader keeps is all that is noted before its nodes
-  pub rowed-next : {next m : ℕ} {row′ : List ℕ} → actionAt f sizes (maxNodes - used) at ≡ accepted (next, m) → Action-placed f sizes (maxNodes - used) at (nodesFrom + used) (frontNoted f at a (startNoted a at used row)) row′
-      → Rowed f sizes (a + 1) from next (used + m) row′
-  rowed-next {next} {m} {row′} r p = record { going = all; fronts = fronts-kept (omega (arith, few)) (λ k l. p .kept k (omega (arith, l))) (fronts-more at start few (omega (arith, long, length-set row (firstsFrom + a) used))) }
-    where
-      start : Fronts f a first
-      start = fronts-kept (omega (arith, few)) (λ k l. getD-set-other row (firstsFrom + a) k used 0 (λ q. omega (arith, l, q))) (g .fronts)
-
-      -- an entry past the actions' fronts
-      behind : (k : ℕ) → firstsFrom ≤ k → getD (frontNoted f at a (startNoted a at used row)) k 0 ≡ getD first k 0
-      behind k l = front-behind f (startNoted a at used row) a at few k l ∙ getD-set-other first a k at 0 (λ q. omega (arith, few, l, q))
-
-      -- one of those about nodes that is kept
-      same : (j : ℕ) → getD row′ (nodesFrom + j) 0 ≡ getD (frontNoted f at a (startNoted a at used row)) (nodesFrom + j) 0 → getD (drop nodesFrom row′) j 0 ≡ getD (drop nodesFrom row) j 0
-      same j e = getD-drop nodesFrom row′ j 0 ∙ e ∙ behind (nodesFrom + j) (omega arith) ∙ getD-set-other row (firstsFrom + a) (nodesFrom + j) used 0 (λ q. omega (arith, few, q)) ∙ sym (getD-drop nodesFrom row j 0)
-
-      -- one of the new ones
-      new : (j : ℕ) → getD row′ (nodesFrom + used + j) 0 ≡ getD (drop nodesFrom row′) (used + j) 0
-      new j = ap (λ (k : ℕ). getD row′ k 0) (omega arith) ∙ sym (getD-drop nodesFrom row′ (used + j) 0)
-
-      placed : Action-placed f sizes (maxNodes - used) at used (drop nodesFrom row) (drop nodesFrom row′)
-      placed = record {
-        kept = λ j l. same j (p .kept (nodesFrom + j) (omega (arith, l)));
-        kept-tested = λ j l h. same j (p .kept-tested (nodesFrom + j) (omega (arith, l)) (omega (arith, h)));
-        lies = λ x end r j nd h. let o = p .lies x end r j nd h in (o .0, subst (λ (k : ℕ). readNode f sizes (length (x .nodes)) (suc j) k ≡ accepted (nd, o .0)) (new j) (o .1));
-        tested = λ x end r j nd h. sym (new (maxNodes + j)) ∙ p .tested x end r j nd h;
-      }
-
-      noted : Going f sizes (a + 1) from next (used + m) (startNoted a at used row) (set (drop firstsFrom row) a used) (drop nodesFrom row′)
-      noted =
-          going-next {actions = first} {firsts = drop firstsFrom row} (going-kept (g .going) (λ b l. getD-set-other row (firstsFrom + a) b used 0 (λ q. omega (arith, l, few, q))) (λ b l. refl))
-          (omega (arith, few, long, length-set row (firstsFrom + a) used)) (omega (arith, few, long, length-drop firstsFrom row)) r placed
-
-      all : Going f sizes (a + 1) from next (used + m) row′ (drop firstsFrom row′) (drop nodesFrom row′)
-      all =
-          going-kept noted
-          (λ b l. p .kept b (omega (arith, l, few)) ∙ front-keeps f (startNoted a at used row) a at few b (omega (arith, l, few)))
-          (λ b l.
-          getD-drop firstsFrom row′ b 0 ∙ p .kept (firstsFrom + b) (omega (arith, l, few)) ∙ behind (firstsFrom + b) (omega arith) ∙ sym (getD-drop firstsFrom first b 0) ∙ ap (λ (xs : List ℕ). getD xs b 0) (drop-set-add firstsFrom row a used))

@@ -2,10 +2,11 @@
 pub mod Task
 pub mod TaskFile
 pub mod Answers
-pub mod InPlace
+pub mod Row
 pub mod WalkInPlace
-pub mod Index
 pub mod PartsInPlace
+pub mod InPlace
+pub mod Index
 -- Laws.
 pub mod WalkLaws
 pub mod DiagramReadLaws

@@ -7,10 +7,10 @@ use native.Mathlib.Omega.{arith}
 use mathlib.Core.Bool.{true, false}
 use mathlib.Core.List.{List, []}
 use lib.ListN.{length, getD, take, drop, length-drop, drop-of-length-le}
-use lib.Seq.{getD-take, take-length}
+use lib.Seq.{take-length}
 use Rattle.facts.specs.Read.{accepted, refused}
 use Rattle.facts.specs.Lists.{At}
-use Rattle.facts.specs.ListLaws.{at-getD, at-length}
+use Rattle.facts.specs.ListLaws.{at-getD}
 use Rattle.facts.specs.Partial.{Partial, Alike, holds, apply, partialAt, pastPartial}
 use Rattle.facts.specs.InPlaceLaws.{alike-partial}
 use Rattle.facts.specs.State.{Inside}
@@ -18,6 +18,7 @@ use Rattle.facts.specs.Run.{Move, next, blocked, attempt, runFrom}
 use Rattle.facts.specs.RunLaws.{attempt-length, run-missing, run-blocked, run-next, run-unmet, run-met, run-same, list-long, list-fits}
 use Rattle.taskfile.specs.Task.{Action, Task, Walk, maxList, walk, actionMove, actionPasses, taskSum}
 use Rattle.taskfile.specs.TaskFile.{readTask}
+use Rattle.taskfile.specs.Row.{ownFrom}
 use Rattle.taskfile.specs.InPlace.{Located}
 use Rattle.taskfile.specs.TaskReadLaws.{task-wf}
 use Rattle.taskfile.specs.TaskLaws.{move-at, passes-at, attempt-inside}
@@ -48,18 +49,18 @@ own-nodes nodes n {k} e =
       | no h ↦ drop-of-length-le nodes {i = k} (omega (arith, lt-of-not-le h)) ∙ sym (drop-of-length-le nodes {i = n} (omega (arith, lt-of-not-le h)))
     ]
 
-module _ (f actions firsts nodes : List ℕ) (a : ℕ) (s : List ℕ) where
+module _ (f row : List ℕ) (a : ℕ) (s : List ℕ) where
   -- what the action at an offset does is what its number does
-  pub moves : (measure : Walk → ℕ) {k : ℕ} {m : Move} → k ≡ min (getD firsts a 0) (length nodes) → m ≡ performBy measure f (getD actions a 0) (take (length nodes - k) (drop k nodes)) s → m ≡ moveBy measure f actions firsts nodes a s
+  pub moves : (measure : Walk → ℕ) {k : ℕ} {m : Move} → k ≡ min (ownFrom row a) (length row) → m ≡ performBy measure f (getD row a 0) (take (length row - k) (drop k row)) s → m ≡ moveBy measure f row a s
   unfolding moveBy
-  moves measure e h = h ∙ ap (λ (own : List ℕ). performBy measure f (getD actions a 0) own s) (own-nodes nodes (getD firsts a 0) e)
+  moves measure e h = h ∙ ap (λ (own : List ℕ). performBy measure f (getD row a 0) own s) (own-nodes row (ownFrom row a) e)
 
   -- a state keeps its length
-  pub move-length : {e : List ℕ} {c : ℕ} → moveAt f actions firsts nodes a s ≡ next e c → length e ≡ length s
+  pub move-length : {e : List ℕ} {c : ℕ} → moveAt f row a s ≡ next e c → length e ≡ length s
   unfolding moveBy performBy
   move-length h =
-      let at = getD actions a 0 in
-      attempt-length (partialAt f at) (partialAt f (pastPartial f at)) (walkAt f at (drop (getD firsts a 0) nodes) s .cost) s h
+      let at = getD row a 0 in
+      attempt-length (partialAt f at) (partialAt f (pastPartial f at)) (walkAt f at (drop (ownFrom row a) row) s .cost) s h
 
 -- ---- a run, number by number
 
@@ -97,49 +98,35 @@ module _ {count : ℕ} {move : ℕ → List ℕ → Move} {goal : Partial} {list
 
 -- ---- an accepted file
 
-module _ (f : List ℕ) {t : Task} (r : readTask f ≡ accepted t) {actions firsts nodes : List ℕ} (loc : Located f actions firsts nodes) where
-  -- the offsets and first nodes of the actions alone are enough
-  at-below : {t′ : Task} (n : ℕ) {a : ℕ} {x : Action} → length (t .actions) ≤ n → readTask f ≡ accepted t′ → At (t′ .actions) a x → a < n
-  at-below {t′} n few r′ h = let same : t′ ≡ t = cc (sym r′ ∙ r) in omega (arith, at-length h, ap (λ (t : Task). length (t .actions)) same)
+module _ (f : List ℕ) {t : Task} (r : readTask f ≡ accepted t) {row : List ℕ} (loc : Located f row) {count : ℕ} (all : count ≡ length (t .actions)) where
+  abbrev nothing : Action
+  nothing = record { pre = record { map = 0; values = [] }; eff = record { map = 0; values = [] }; incoming = 0; nodes = [] }
 
-  pub located-actions : (n : ℕ) → length (t .actions) ≤ n → Located f (take n actions) firsts nodes
-  located-actions n few = record { lies = λ t′ r′ a x h. rw (getD-take n actions a 0 (at-below n few r′ h)) (loc .lies t′ r′ a x h); first-is = loc .first-is }
+  at-action : (a : ℕ) → a < count → At (t .actions) a (getD (t .actions) a nothing)
+  at-action a l = at-getD (t .actions) a nothing (omega arith)
 
-  pub located-firsts : (n : ℕ) → length (t .actions) ≤ n → Located f actions (take n firsts) nodes
-  located-firsts n few = record {
-    lies = λ t′ r′ a x h. rw (getD-take n firsts a 0 (at-below n few r′ h)) (loc .lies t′ r′ a x h);
-    first-is = λ t′ r′ a x h. rw (getD-take n firsts a 0 (at-below n few r′ h)) (loc .first-is t′ r′ a x h);
-  }
+  -- by a measure of walks, where `move` is by that measure what the actions do that were read
+  module _ (measure : Walk → ℕ) (move : ℕ → List ℕ → Move) (does : (a : ℕ) (x : Action) (s : List ℕ) → At (t .actions) a x → move a s ≡ attempt (x .pre) (x .eff) (measure (walk x s)) s) where
+    move-in-place : (a : ℕ) (s : List ℕ) → a < count → Inside (t .sizes) s → let x = getD (t .actions) a nothing in moveBy measure f row a s ≡ attempt (x .pre) (x .eff) (measure (walk x s)) s
+    unfolding moveBy
+    move-in-place a s l inside = perform-in-place f (loc .lies t r a (getD (t .actions) a nothing) (at-action a l)) s inside measure
 
-  module _ (all : length actions ≡ length (t .actions)) where
-    abbrev nothing : Action
-    nothing = record { pre = record { map = 0; values = [] }; eff = record { map = 0; values = [] }; incoming = 0; nodes = [] }
+    -- the runs agree
+    run-in-place : (goal : ℕ) (list init : List ℕ) → init ≡ t .init → partialAt f goal ≡ t .goal
+        → runFrom (count) (moveBy measure f row) (partialAt f goal) 0 0 list init ≡ runFrom (length (t .actions)) move (t .goal) 0 0 list (t .init)
+    run-in-place goal list init i g =
+        rw (i, g)
+        (run-same (count) (moveBy measure f row) move (t .goal) (Inside (t .sizes))
+        (λ a s l i. move-in-place a s l i ∙ sym (does a (getD (t .actions) a nothing) s (at-action a l)))
+        (λ a s e c l i h. attempt-inside (task-wf f r .actions (at-action a l)) s i (measure (walk (getD (t .actions) a nothing) s)) (sym (move-in-place a s l i) ∙ h))
+        list (t .init) 0 0 (task-wf f r .init))
+        ∙ ap (λ (n : ℕ). runFrom n move (t .goal) 0 0 list (t .init)) all
 
-    at-action : (a : ℕ) → a < length actions → At (t .actions) a (getD (t .actions) a nothing)
-    at-action a l = at-getD (t .actions) a nothing (omega arith)
+  -- a run by the offsets is one of the actions that were read, in its sum and in the nodes passed
+  module _ (goal : ℕ) (list init : List ℕ) (i : init ≡ t .init) (g : partialAt f goal ≡ t .goal) where
+    pub sum-in-place : runFrom (count) (moveAt f row) (partialAt f goal) 0 0 list init ≡ taskSum t list
+    unfolding taskSum
+    sum-in-place = run-in-place (λ (w : Walk). w .cost) (actionMove (t .actions)) (λ a x s h. move-at (t .actions) s h) goal list init i g
 
-    -- by a measure of walks, where `move` is by that measure what the actions do that were read
-    module _ (measure : Walk → ℕ) (move : ℕ → List ℕ → Move) (does : (a : ℕ) (x : Action) (s : List ℕ) → At (t .actions) a x → move a s ≡ attempt (x .pre) (x .eff) (measure (walk x s)) s) where
-      move-in-place : (a : ℕ) (s : List ℕ) → a < length actions → Inside (t .sizes) s → let x = getD (t .actions) a nothing in moveBy measure f actions firsts nodes a s ≡ attempt (x .pre) (x .eff) (measure (walk x s)) s
-      unfolding moveBy
-      move-in-place a s l inside = perform-in-place f (loc .lies t r a (getD (t .actions) a nothing) (at-action a l)) s inside measure
-
-      -- the runs agree
-      run-in-place : (goal : ℕ) (list init : List ℕ) → init ≡ t .init → partialAt f goal ≡ t .goal
-          → runFrom (length actions) (moveBy measure f actions firsts nodes) (partialAt f goal) 0 0 list init ≡ runFrom (length (t .actions)) move (t .goal) 0 0 list (t .init)
-      run-in-place goal list init i g =
-          rw (i, g)
-          (run-same (length actions) (moveBy measure f actions firsts nodes) move (t .goal) (Inside (t .sizes))
-          (λ a s l i. move-in-place a s l i ∙ sym (does a (getD (t .actions) a nothing) s (at-action a l)))
-          (λ a s e c l i h. attempt-inside (task-wf f r .actions (at-action a l)) s i (measure (walk (getD (t .actions) a nothing) s)) (sym (move-in-place a s l i) ∙ h))
-          list (t .init) 0 0 (task-wf f r .init))
-          ∙ ap (λ (n : ℕ). runFrom n move (t .goal) 0 0 list (t .init)) all
-
-    -- a run by the offsets is one of the actions that were read, in its sum and in the nodes passed
-    module _ (goal : ℕ) (list init : List ℕ) (i : init ≡ t .init) (g : partialAt f goal ≡ t .goal) where
-      pub sum-in-place : runFrom (length actions) (moveAt f actions firsts nodes) (partialAt f goal) 0 0 list init ≡ taskSum t list
-      unfolding taskSum
-      sum-in-place = run-in-place (λ (w : Walk). w .cost) (actionMove (t .actions)) (λ a x s h. move-at (t .actions) s h) goal list init i g
-
-      pub passed-in-place : runFrom (length actions) (passesAt f actions firsts nodes) (partialAt f goal) 0 0 list init ≡ runFrom (length (t .actions)) (actionPasses (t .actions)) (t .goal) 0 0 list (t .init)
-      passed-in-place = run-in-place (λ (w : Walk). w .passed) (actionPasses (t .actions)) (λ a x s h. passes-at (t .actions) s h) goal list init i g
+    pub passed-in-place : runFrom (count) (passesAt f row) (partialAt f goal) 0 0 list init ≡ runFrom (length (t .actions)) (actionPasses (t .actions)) (t .goal) 0 0 list (t .init)
+    passed-in-place = run-in-place (λ (w : Walk). w .passed) (actionPasses (t .actions)) (λ a x s h. passes-at (t .actions) s h) goal list init i g

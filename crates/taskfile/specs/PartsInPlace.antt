@@ -7,6 +7,7 @@ use Rattle.facts.specs.Partial.{partialBytes, partialAt, pastPartial}
 use Rattle.facts.specs.Fields.{wordAt}
 use Rattle.taskfile.specs.Task.{Edge, Node, Action, maxNodes}
 use Rattle.taskfile.specs.TaskFile.{edgeBytes}
+use Rattle.taskfile.specs.Row.{ownFrom}
 use Rattle.taskfile.specs.WalkInPlace.{incomingPlace, nodeCount}
 
 -- the file f
@@ -38,11 +39,10 @@ module _ (f : List ℕ) where
     nodes = nodesIn sizes offsets 0 (nodeCount f at);
   }
 
-  -- `count` actions from number a on: `actions` has the offset of each, `firsts` the index of its first node in `nodes`
-  abbrev pub actionsIn : List ℕ → List ℕ → List ℕ → List ℕ → ℕ → ℕ → List Action
-  actionsIn sizes actions firsts nodes a zero = []
-  actionsIn sizes actions firsts nodes a (suc count) =
-      actionIn sizes (getD actions a 0) (drop (getD firsts a 0) nodes) ∷ actionsIn sizes actions firsts nodes (suc a) count
+  -- `count` actions from number a on, by the row of the index
+  abbrev pub actionsIn : List ℕ → List ℕ → ℕ → ℕ → List Action
+  actionsIn sizes row a zero = []
+  actionsIn sizes row a (suc count) = actionIn sizes (getD row a 0) (drop (ownFrom row a) row) ∷ actionsIn sizes row (suc a) count
 
   -- The partial state at an offset ends within the file and has facts of the first n variables only.
   pub record Stands (n at : ℕ) : Type 0 where

@@ -3,28 +3,28 @@ use mathlib.Core.Path.{_≡_, refl, sym, ap, ap₂, subst, _∙_}
 use Prim.Native.Nat.{ℕ, zero, suc, _+_, _*_, _≤_, _<_}
 use native.Mathlib.Omega.{arith}
 use mathlib.Core.List.{List, [], _∷_}
-use lib.ListN.{length, getD, take, drop}
-use lib.Seq.{getD-take, getD-drop}
+use lib.ListN.{length, getD, drop}
+use lib.Seq.{getD-drop}
 use Rattle.facts.specs.Read.{accepted}
 use Rattle.facts.specs.Lists.{At, here, there}
 use Rattle.facts.specs.ListLaws.{total-at}
 use Rattle.facts.specs.BytesLaws.{number-one}
-use Rattle.facts.specs.Partial.{Partial, pastPartial}
+use Rattle.facts.specs.Partial.{Partial}
 use Rattle.facts.specs.Fields.{wordAt}
 use Rattle.facts.specs.InPlaceLaws.{word-is}
 use Rattle.facts.specs.PartialReadLaws.{Partial-read, partial-read}
 use Rattle.facts.specs.HeadLaws.{head-read}
 use Rattle.taskfile.specs.Task.{Edge, Node, Action, Task, maxNodes}
 use Rattle.taskfile.specs.TaskFile.{edgeBytes, readTask}
-use Rattle.taskfile.specs.InPlace.{Lies, effectsFrom, incomingFrom, Located}
-use Rattle.taskfile.specs.Index.{Index, Ready}
+use Rattle.taskfile.specs.Row.{ownFrom}
+use Rattle.taskfile.specs.InPlace.{Lies}
+use Rattle.taskfile.specs.Index.{Ready}
 use Rattle.taskfile.specs.WalkInPlace.{incomingPlace, nodeCount}
 use Rattle.taskfile.specs.PartsInPlace.{edgeIn, edgesIn, nodeIn, nodesIn, actionIn, actionsIn, Stands, Stood}
 use Rattle.taskfile.specs.DiagramReadLaws.{Edge-read, Node-read, node-read, node-edge, node-tests}
 use Rattle.taskfile.specs.WalkInPlaceLaws.{pre-lies, eff-lies, incoming-lies, count-is}
 use Rattle.taskfile.specs.TaskReadLaws.{task-read, task-limits}
-use Rattle.taskfile.specs.MoveInPlaceLaws.{located-actions}
-use Rattle.taskfile.specs.AnswerLaws.{there as task-there, starts-count}
+use Rattle.taskfile.specs.AnswerLaws.{there as task-there}
 
 -- ---- rows of parts: each part where it stands
 
@@ -59,12 +59,10 @@ nodes-at f sizes offsets from (suc count) zero k h e = let same : from ≡ k = o
 nodes-at f sizes offsets from (suc count) (suc j) k h e = there (nodes-at f sizes offsets (suc from) count j k (omega arith) (omega arith))
 
 -- Actions at these offsets.
-actions-are : (f sizes starts firsts nodes : List ℕ) (a : ℕ) (xs : List Action)
-    → ((k q : ℕ) (x : Action) → At xs k x → q ≡ a + k → actionIn f sizes (getD starts q 0) (drop (getD firsts q 0) nodes) ≡ x)
-    → actionsIn f sizes starts firsts nodes a (length xs) ≡ xs
-actions-are f sizes starts firsts nodes a [] h = refl
-actions-are f sizes starts firsts nodes a (x ∷ xs) h =
-    ap₂ (λ (y : Action) (ys : List Action). y ∷ ys) (h 0 a x here (omega arith)) (actions-are f sizes starts firsts nodes (suc a) xs (λ k q y b e. h (suc k) q y (there b) (omega arith)))
+actions-are : (f sizes row : List ℕ) (a : ℕ) (xs : List Action) → ((k q : ℕ) (x : Action) → At xs k x → q ≡ a + k → actionIn f sizes (getD row q 0) (drop (ownFrom row q) row) ≡ x) → actionsIn f sizes row a (length xs) ≡ xs
+actions-are f sizes row a [] h = refl
+actions-are f sizes row a (x ∷ xs) h =
+    ap₂ (λ (y : Action) (ys : List Action). y ∷ ys) (h 0 a x here (omega arith)) (actions-are f sizes row (suc a) xs (λ k q y b e. h (suc k) q y (there b) (omega arith)))
 
 -- There is an element at each index.
 pub at-some : {A : Type 0} (xs : List A) (k : ℕ) → k < length xs → (x : A) × At xs k x
@@ -133,47 +131,29 @@ module _ (f : List ℕ) {sizes : List ℕ} {x : Action} {at first : ℕ} {all : 
 
 -- ---- the task of an accepted file with this index
 
-module _ (f : List ℕ) {i : Index} (ready : Ready f i) where
+module _ (f : List ℕ) {n k : ℕ} {row : List ℕ} (ready : Ready f n k row) where
   abbrev t : Task
   t = task-there f ready .task
-
-  -- the offset of each action
-  abbrev begins : List ℕ
-  begins = take (i .actions) (i .starts)
 
   pub reads : readTask f ≡ accepted t
   reads = task-there f ready .reads
 
-  pub located : Located f begins (i .firsts) (i .nodes)
-  located = located-actions f reads (ready .located) (i .actions) (omega (arith, task-there f ready .actions))
-
   -- Each action stands at its offset.
-  pub actions-stood : {sizes : List ℕ} → sizes ≡ t .sizes → (a : ℕ) → a < length begins → Stood f sizes (getD begins a 0) (drop (getD (i .firsts) a 0) (i .nodes))
+  pub actions-stood : {sizes : List ℕ} → sizes ≡ t .sizes → (a : ℕ) → a < k → Stood f sizes (getD row a 0) (drop (ownFrom row a) row)
   actions-stood e a h =
-      let x = at-some (t .actions) a (omega (arith, starts-count f ready)) in
-      rw e (stood f (located .lies t reads a (x .0) (x .1)) (omega (arith, total-at (λ x. length (x .nodes)) (x .1), task-limits f reads .nodes)))
+      let x = at-some (t .actions) a (omega (arith, task-there f ready .actions)) in
+      rw e (stood f (ready .located .lies t reads a (x .0) (x .1)) (omega (arith, total-at (λ x. length (x .nodes)) (x .1), task-limits f reads .nodes)))
 
   -- The actions in place are the task's.
-  pub actions-in-place : actionsIn f (t .sizes) begins (i .firsts) (i .nodes) 0 (length begins) ≡ t .actions
+  pub actions-in-place : actionsIn f (t .sizes) row 0 k ≡ t .actions
   actions-in-place =
-      ap (actionsIn f (t .sizes) begins (i .firsts) (i .nodes) 0) (starts-count f ready)
-      ∙ actions-are f (t .sizes) begins (i .firsts) (i .nodes) 0 (t .actions) (λ a q x h e.
+      ap (actionsIn f (t .sizes) row 0) (sym (task-there f ready .actions))
+      ∙ actions-are f (t .sizes) row 0 (t .actions) (λ a q x h e.
       let same : q ≡ a = omega arith in
-      rw same (action-here f (located .lies t reads a x h)))
-
-  -- Where each effect and each incoming weight stands, in the parts of the row behind the actions' offsets.
-  pub effects-noted : {k : ℕ} → i .actions ≤ k → (a : ℕ) → a < length begins → getD (take k (drop effectsFrom (i .starts))) a 0 ≡ pastPartial f (getD begins a 0)
-  effects-noted {k} few a h =
-      let l : a < i .actions = omega (arith, h, starts-count f ready, task-there f ready .actions) in
-      getD-take k (drop effectsFrom (i .starts)) a 0 (omega (arith, l, few)) ∙ getD-drop effectsFrom (i .starts) a 0 ∙ ready .fronts .effect a l ∙ ap (pastPartial f) (sym (getD-take (i .actions) (i .starts) a 0 l))
-
-  pub incoming-noted : {k : ℕ} → i .actions ≤ k → (a : ℕ) → a < length begins → getD (take k (drop incomingFrom (i .starts))) a 0 ≡ incomingPlace f (getD begins a 0)
-  incoming-noted {k} few a h =
-      let l : a < i .actions = omega (arith, h, starts-count f ready, task-there f ready .actions) in
-      getD-take k (drop incomingFrom (i .starts)) a 0 (omega (arith, l, few)) ∙ getD-drop incomingFrom (i .starts) a 0 ∙ ready .fronts .incoming a l ∙ ap (incomingPlace f) (sym (getD-take (i .actions) (i .starts) a 0 l))
+      rw same (action-here f (ready .located .lies t reads a x h)))
 
   -- The goal stands in the file.
-  pub goal-stands : Stands f (i .variables) (1 + 2 * i .variables)
+  pub goal-stands : Stands f (n) (1 + 2 * n)
   goal-stands =
       let g = head-read f 24 8 (task-read f reads .head-is) .goal in
       subst (λ (n : ℕ). Stands f n (1 + 2 * n)) (task-there f ready .variables) (stands (partial-read f (t .sizes) (1 + 2 * length (t .sizes)) g))

@@ -3,21 +3,20 @@ use mathlib.Core.Path.{_≡_, sym, ap, ap₂, _∙_, subst, subst₂}
 use Prim.Native.Nat.{ℕ, _+_, _≤_, _<_}
 use mathlib.Core.List.{List}
 use native.Mathlib.Omega.{arith}
-use lib.ListN.{length, getD, take, drop, length-take, length-drop}
-use lib.Seq.{length-take-le, take-all, getD-take}
+use lib.ListN.{length, getD, take, drop}
 use borrow.Author.Tests.{le-leb, lt-leb}
 use Rattle.facts.specs.Read.{Read, accepted, refused}
 use Rattle.facts.specs.ReadLaws.{not-refused, made, not-made, value-of, next-of}
 use Rattle.facts.specs.Fields.{nextOf, valueOf, Head, readCount, readHead, headAt, readEnd}
 use Rattle.facts.specs.FieldLaws.{count-read}
 use Rattle.facts.specs.HeadLaws.{headed, headed-sizes, no-head}
-use Rattle.taskfile.specs.Task.{Action, Task, maxActions, maxNodes}
+use Rattle.taskfile.specs.Task.{Action, Task, maxNodes}
 use Rattle.taskfile.specs.TaskFile.{readActions, readTask, checkTask}
-use Rattle.taskfile.specs.TaskReadLaws.{task-read, task-limits}
-use Rattle.taskfile.specs.InPlace.{Lies, firstsFrom, nodesFrom, rowLong, Fronts, Listed, taskAt, Located}
-use Rattle.taskfile.specs.Index.{nodesLong, indexOf, Ready, indexAnswer, Noted}
-use Rattle.taskfile.specs.IndexLaws.{fronts-kept, actions-count}
-use Rattle.taskfile.specs.MoveInPlaceLaws.{located-actions, located-firsts}
+use Rattle.taskfile.specs.TaskReadLaws.{task-read}
+use Rattle.taskfile.specs.Row.{rowLong, ownFrom}
+use Rattle.taskfile.specs.InPlace.{Lies, Fronts, Listed, taskAt, Located}
+use Rattle.taskfile.specs.Index.{Ready, indexAnswer, Noted}
+use Rattle.taskfile.specs.IndexLaws.{actions-count}
 
 -- what is counted of a task
 abbrev counts : Task → ℕ × ℕ
@@ -40,7 +39,7 @@ module _ (f : List ℕ) where
   noted-none = record { located = λ h. absurd (not-refused h); fronts = λ h. absurd (not-refused h) }
 
   -- what is accepted has this one
-  pub noted-good : {n k : ℕ} {row : List ℕ} → Located f row (drop firstsFrom row) (drop nodesFrom row) → Fronts f k row → Noted f (accepted (n, k)) row
+  pub noted-good : {n k : ℕ} {row : List ℕ} → Located f row → Fronts f k row → Noted f (accepted (n, k)) row
   noted-good {row = row} l g = record { located = λ h. l; fronts = λ h. subst (λ (k : ℕ). Fronts f k row) (next-of h) g }
 
   pub row-short : {long : ℕ} → long < rowLong → indexAnswer f long ≡ refused 7 rowLong
@@ -52,29 +51,9 @@ module _ (f : List ℕ) where
   row-fits {long} l = rw (le-leb rowLong long l)
 
   -- a row that is as long as it has to be tells what the check tells
-  pub index-ready : {answer : Read (ℕ × ℕ)} {n k : ℕ} {row : List ℕ} → answer ≡ indexAnswer f rowLong → Noted f answer row → answer ≡ accepted (n, k) → length row ≡ rowLong → Ready f (indexOf n k row)
-  unfolding indexAnswer taskAt
-  index-ready {k = k} {row} h noted is long =
-      let m = made counts (readTask f) (sym h ∙ is) in
-      let t = m .from in
-      let count : length (t .actions) ≡ k = ap (λ (p : ℕ × ℕ). p .1) (m .value) in
-      let few : length (t .actions) ≤ maxActions = task-limits f (m .answer) .actions in
-      let starts = located-actions f (m .answer) (noted .located is) firstsFrom (omega (arith, few)) in
-      let firsts = located-firsts f (m .answer) starts maxActions few in
-      let same : drop nodesFrom row ≡ take nodesLong (drop nodesFrom row) = sym (take-all nodesLong (drop nodesFrom row) (omega (arith, length-drop nodesFrom row, long))) in
-      let at : (a : ℕ) → a < firstsFrom → getD (take firstsFrom row) a 0 ≡ getD row a 0 = λ a l. getD-take firstsFrom row a 0 l in
-      record {
-        counts = sym h ∙ is;
-        located = subst (Located f (take firstsFrom row) (take maxActions (drop firstsFrom row))) same firsts;
-        fronts = fronts-kept (omega (arith, few, count)) at (noted .fronts is);
-        starts-long = length-take-le firstsFrom row (omega (arith, long));
-        firsts-long = length-take-le maxActions (drop firstsFrom row) (omega (arith, length-drop firstsFrom row, long));
-        nodes-long = length-take-le nodesLong (drop nodesFrom row) (omega (arith, length-drop nodesFrom row, long));
-      }
-
-  -- and its parts lie inside it
-  pub row-long : (row : List ℕ) {n k : ℕ} → Ready f (indexOf n k row) → rowLong ≤ length row
-  row-long row ready = omega (arith, ready .nodes-long, length-take nodesLong (drop nodesFrom row), length-drop nodesFrom row)
+  pub index-ready : {answer : Read (ℕ × ℕ)} {n k : ℕ} {row : List ℕ} → answer ≡ indexAnswer f rowLong → Noted f answer row → answer ≡ accepted (n, k) → length row ≡ rowLong → Ready f n k row
+  unfolding indexAnswer
+  index-ready h noted is long = record { counts = sym h ∙ is; located = noted .located is; fronts = noted .fronts is; long = omega (arith, long) }
 
   pub index-refused : {n p : ℕ} → indexAnswer f rowLong ≡ refused n p → checkTask f ≡ refused n p
   unfolding indexAnswer
@@ -155,10 +134,10 @@ module _ (f : List ℕ) where
             )
 
         -- what was noted for the actions from this offset on was noted for the task's
-        pub located : {starts firsts nodes : List ℕ} → Listed f sizes count (at + 1) starts firsts nodes → Located f starts firsts nodes
-        located {starts} {firsts} {nodes} m = record {
+        pub located : {row : List ℕ} → Listed f sizes count (at + 1) row → Located f row
+        located {row} m = record {
           lies = λ t r a x i.
               let o = read-again t r in
-              subst (λ (ds : List ℕ). Lies f ds x (getD starts a 0) (getD firsts a 0) nodes) (sym (o .2)) (m .lies (t .actions) (o .0) (o .1) a x i);
+              subst (λ (ds : List ℕ). Lies f ds x (getD row a 0) (ownFrom row a) row) (sym (o .2)) (m .lies (t .actions) (o .0) (o .1) a x i);
           first-is = λ t r a x i. let o = read-again t r in m .first-is (t .actions) (o .0) (o .1) a x i;
         }

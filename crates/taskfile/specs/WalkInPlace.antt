@@ -10,6 +10,7 @@ use Rattle.facts.specs.Fields.{wordAt}
 use Rattle.facts.specs.Run.{Move, next, blocked, attempt, runFrom, atMost}
 use Rattle.taskfile.specs.Task.{Edge, Walk, arrived, along, maxNodes, maxWeight, maxList}
 use Rattle.taskfile.specs.TaskFile.{edgeBytes}
+use Rattle.taskfile.specs.Row.{ownFrom}
 
 -- ---- the parts of an action at an offset
 
@@ -81,9 +82,9 @@ atCost c blocked = blocked
 unfoldable pub performBy : (Walk → ℕ) → List ℕ → ℕ → List ℕ → List ℕ → Move
 performBy measure f at nodes s = attempt (partialAt f at) (partialAt f (pastPartial f at)) (measure (walkAt f at nodes s)) s
 
--- the same of action number a: `actions` has the offset of each action, `firsts` the index of its first node in `nodes`
-unfoldable pub moveBy : (Walk → ℕ) → List ℕ → List ℕ → List ℕ → List ℕ → ℕ → List ℕ → Move
-moveBy measure f actions firsts nodes a s = performBy measure f (getD actions a 0) (drop (getD firsts a 0) nodes) s
+-- the same of action number a, by the row of the index
+unfoldable pub moveBy : (Walk → ℕ) → List ℕ → List ℕ → ℕ → List ℕ → Move
+moveBy measure f row a s = performBy measure f (getD row a 0) (drop (ownFrom row a) row) s
 
 -- what the action at an offset does: it costs what its walk costs
 abbrev pub performAt : List ℕ → ℕ → List ℕ → List ℕ → Move
@@ -94,11 +95,11 @@ abbrev pub passAt : List ℕ → ℕ → List ℕ → List ℕ → Move
 passAt = performBy (λ w. w .passed)
 
 -- what action number a does
-abbrev pub moveAt : List ℕ → List ℕ → List ℕ → List ℕ → ℕ → List ℕ → Move
+abbrev pub moveAt : List ℕ → List ℕ → ℕ → List ℕ → Move
 moveAt = moveBy (λ w. w .cost)
 
 -- what action number a does, with the number of nodes that its walk passes in place of the cost
-abbrev pub passesAt : List ℕ → List ℕ → List ℕ → List ℕ → ℕ → List ℕ → Move
+abbrev pub passesAt : List ℕ → List ℕ → ℕ → List ℕ → Move
 passesAt = moveBy (λ w. w .passed)
 
 -- ---- runs

@@ -5,8 +5,8 @@ use crate::output::done;
 use crate::output::failed;
 use crate::output::refuse;
 use crate::output::write;
-use words::Described;
 use report::Subject;
+use words::Described;
 
 // The most bytes of a task in words and of its diagrams, and of the steps of a list: more than any has.
 const TASK_TEXT: usize = 65536;
