@@ -1,17 +1,17 @@
 // Actions in place: one applied, and a list of them run.
+use crate::own_nodes;
 use crate::walk_past;
 use facts::Applied;
 use facts::Held;
 use facts::Ran;
 use facts::Refusal;
-use facts::number::offset_within;
+use facts::number::offset_at;
 use partial::apply_at;
 use partial::held_at;
 use taskfile::Run;
 use taskfile::Task;
 ghost use mathlib.Core.Path.{_≡_};
 ghost use Prim.Native.Nat.{_≤_};
-ghost use lib.ListN.{length};
 ghost use Rattle.facts.specs.Partial.{partialAt};
 ghost use Rattle.facts.specs.Answers.{ranAnswer, appliedMove, CostMost};
 ghost use Rattle.taskfile.specs.WalkInPlace.{maxPassed, maxWalk, atCost, performAt, passAt, moveAt, passesAt, runList};
@@ -46,18 +46,17 @@ pub fn apply_action(file: &[u8], at: usize, nodes: &[usize], state: &mut [u8]) -
     }
 }
 
-// Runs a list of at most 256 numbers from a state: `action_at` has the offset of each action, `first_node` the index of its first node in `node_at`, and the goal starts at `goal`.
+// Runs a list of at most 256 numbers from a state, by the row of the index: there are `count` actions, and the goal starts at `goal`.
 pub fn run_list(
     file: &[u8],
     goal: usize,
-    action_at: &[usize],
-    first_node: &[usize],
-    node_at: &[usize],
+    count: usize,
+    row: &[usize],
     list: &[u16],
     state: &mut [u8],
 ) -> Run
-    ensures { λ r. ⌜ ranAnswer (r .answer) ≡ runList (length (now («action_at» .entry))) (moveAt (now (file .entry)) (now («action_at» .entry)) (now («first_node» .entry)) (now («node_at» .entry))) (partialAt (now (file .entry)) goal) (now (list .entry)) (now (state .entry)) ⌝ }
-    ensures { λ r. ⌜ passedAnswer r ≡ runList (length (now («action_at» .entry))) (passesAt (now (file .entry)) (now («action_at» .entry)) (now («first_node» .entry)) (now («node_at» .entry))) (partialAt (now (file .entry)) goal) (now (list .entry)) (now (state .entry)) ⌝ }
+    ensures { λ r. ⌜ ranAnswer (r .answer) ≡ runList count (moveAt (now (file .entry)) (now (row .entry))) (partialAt (now (file .entry)) goal) (now (list .entry)) (now (state .entry)) ⌝ }
+    ensures { λ r. ⌜ passedAnswer r ≡ runList count (passesAt (now (file .entry)) (now (row .entry))) (partialAt (now (file .entry)) goal) (now (list .entry)) (now (state .entry)) ⌝ }
 {
     if Task::MAX_LIST < list.len() {
         return Run {
@@ -70,14 +69,14 @@ pub fn run_list(
     let mut i: usize = 0;
     while i < list.len() {
         let number = list[i] as usize;
-        if action_at.len() <= number {
+        if count <= number {
             return Run {
                 answer: Ran::Refused(Refusal::Missing(i)),
                 passed,
             };
         }
-        let first = offset_within(first_node, number, node_at.len());
-        let act = apply_action(file, action_at[number], &node_at[first..], state);
+        let own = own_nodes(row, number);
+        let act = apply_action(file, offset_at(row, number), &row[own..], state);
         let answer = act.answer;
         let Applied::Next(cost) = answer else {
             return Run {

@@ -4,15 +4,18 @@ pub mod count;
 
 use facts::number::byte_at;
 use facts::number::offset_at;
+use facts::number::offset_within;
 use facts::number::word_at;
 use partial::length_at;
 use taskfile::Task;
 ghost use mathlib.Core.Path.{_≡_};
-ghost use Prim.Native.Nat.{_+_, _*_, _≤_};
+ghost use Prim.Native.Nat.{_+_, _*_, _≤_, min};
+ghost use lib.ListN.{length};
 ghost use Rattle.facts.specs.Partial.{pastPartial, Alike};
 ghost use Rattle.facts.specs.Fields.{wordAt};
 ghost use Rattle.taskfile.specs.Task.{maxWeight};
 ghost use Rattle.taskfile.specs.TaskFile.{edgeBytes};
+ghost use Rattle.taskfile.specs.Row.{ownFrom};
 ghost use Rattle.taskfile.specs.PartsInPlace.{edgeIn};
 ghost use Rattle.taskfile.specs.WalkInPlace.{countPast, incomingPlace, nodeCount, edgeOf, wayFrom, walkPast, walkAt, maxPassed, maxWalk};
 
@@ -36,6 +39,20 @@ impl Edge {
 pub struct Diagram {
     pub incoming: u32,
     pub count: usize,
+}
+
+// From which entry of a row on the nodes of action a are noted; past its end there are none.
+pub fn own_nodes(row: &[usize], a: usize) -> usize
+    ensures { λ r. ⌜ r ≡ min (ownFrom (now (row .entry)) a) (length (now (row .entry))) ⌝ }
+{
+    let most = row.len();
+    if most <= Task::NODES {
+        return most;
+    }
+    if most - Task::FIRSTS <= a {
+        return Task::NODES;
+    }
+    Task::NODES + offset_within(row, Task::FIRSTS + a, most - Task::NODES)
 }
 
 // The walk of the action at an offset, whose own nodes are noted in `nodes`: where each begins, and `Task::MAX_NODES` entries behind that the variable that it tests.
