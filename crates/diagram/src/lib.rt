@@ -17,7 +17,8 @@ ghost use Rattle.facts.specs.Fields.{nextOf};
 ghost use Rattle.taskfile.specs.Task.{maxNodes};
 ghost use Rattle.taskfile.specs.TaskFile.{edgeBytes, readTarget, readEdge, readEdges, readNode, readNodes};
 ghost use Rattle.taskfile.specs.Answers.{drawnAnswer};
-ghost use Rattle.taskfile.specs.InPlace.{targetsRise, nodesRise, Levels, Marked, nodesFrom, rowLong, diagramAt, Placed};
+ghost use Rattle.taskfile.specs.Row.{nodesFrom, rowLong};
+ghost use Rattle.taskfile.specs.InPlace.{targetsRise, nodesRise, Levels, Marked, diagramAt, Placed};
 ghost use Rattle.taskfile.specs.PartsInPlace.{Tests};
 
 // The bytes of a weight.

@@ -11,13 +11,14 @@ use taskfile::Drawn;
 use taskfile::Task;
 ghost use mathlib.Core.Path.{_≡_};
 ghost use Prim.Native.Nat.{ℕ, _+_, _-_, _≤_, _<_};
-ghost use lib.ListN.{length, drop};
+ghost use lib.ListN.{length};
 ghost use Rattle.facts.specs.Read.{accepted};
 ghost use Rattle.facts.specs.Answers.{pastAnswer};
 ghost use Rattle.facts.specs.Fields.{nextOf, readOperator, headAt};
 ghost use Rattle.taskfile.specs.TaskFile.{readActions};
 ghost use Rattle.taskfile.specs.Answers.{drawnAnswer, countedAnswer};
-ghost use Rattle.taskfile.specs.InPlace.{actionAt, Action-placed, frontNoted, firstsFrom, nodesFrom, rowLong, Fronts, Listed, taskAt};
+ghost use Rattle.taskfile.specs.Row.{nodesFrom, rowLong};
+ghost use Rattle.taskfile.specs.InPlace.{actionAt, Action-placed, frontNoted, Fronts, Listed, taskAt};
 ghost use Rattle.taskfile.specs.Index.{Noted};
 
 // How many variables and actions a task file has; where each action, its effect and its incoming weight stand, which of all nodes is its first, where each node starts and which variable it tests.
@@ -57,7 +58,7 @@ fn index_actions(file: &[u8], variables: usize, at: usize, row: &mut [usize]) ->
 // Past the actions, noting where each and its parts stand and which node is its first.
 fn actions_end(file: &[u8], from: usize, sizes: &[u8], count: usize, row: &mut [usize]) -> Past
     requires { ⌜ (count ≤ 32) × (rowLong ≤ length (now row)) × (length (now sizes) ≤ 24) ⌝ }
-    ensures { λ r. ⌜ (pastAnswer r ≡ nextOf (readActions (now (file .entry)) (now (sizes .entry)) count 64 from)) × Listed (now (file .entry)) (now (sizes .entry)) count from (now (row .exit)) (drop firstsFrom (now (row .exit))) (drop nodesFrom (now (row .exit))) ⌝ }
+    ensures { λ r. ⌜ (pastAnswer r ≡ nextOf (readActions (now (file .entry)) (now (sizes .entry)) count 64 from)) × Listed (now (file .entry)) (now (sizes .entry)) count from (now (row .exit)) ⌝ }
     ensures { λ r. ⌜ ((end : ℕ) → pastAnswer r ≡ accepted end → Fronts (now (file .entry)) count (now (row .exit))) ⌝ }
 {
     let mut at = from;

@@ -1,13 +1,13 @@
 -- What the answers of the code mean.
 use Prim.Native.Nat.{ℕ}
 use Rattle.facts.specs.Refusal.{number, place}
-use Rattle.facts.specs.Read.{Read, accepted, refused, withValue}
-use Rattle.facts.specs.Answers.{ranAnswer}
+use Rattle.facts.specs.Read.{Read, accepted, refused}
 use Rattle.taskfile.specs.declared.Drawn.{Drawn}
 use Rattle.taskfile.specs.declared.Drawn.the-variants.{Next as NextField, Refused as NotDrawn}
 use Rattle.taskfile.specs.declared.Counted.{Counted}
 use Rattle.taskfile.specs.declared.Counted.the-variants.{Actions, Refused as NotCounted}
-use Rattle.taskfile.specs.declared.Run.{Run}
+use Rattle.taskfile.specs.declared.Tallied.{Tallied}
+use Rattle.taskfile.specs.declared.Tallied.the-variants.{Sum, Refused as NotTallied}
 use Rattle.taskfile.specs.declared.Costed.{Costed}
 use Rattle.taskfile.specs.declared.Costed.the-variants.{Cost, Refused as NotCosted}
 
@@ -21,9 +21,14 @@ abbrev pub countedAnswer : Counted → Read (ℕ × ℕ)
 countedAnswer (Actions variables actions) = accepted (variables, actions)
 countedAnswer (NotCounted why) = refused (number why) (place why)
 
--- how many nodes the walks of a run pass, where it has a sum
-abbrev pub passedAnswer : Run → Read ℕ
-passedAnswer r = withValue (λ sum. r .passed) (ranAnswer (r .answer))
+-- the sum of a run on a task, and how many nodes the walks of its actions pass
+abbrev pub sumAnswer : Tallied → Read ℕ
+sumAnswer (Sum sum passed) = accepted sum
+sumAnswer (NotTallied why) = refused (number why) (place why)
+
+abbrev pub passedAnswer : Tallied → Read ℕ
+passedAnswer (Sum sum passed) = accepted passed
+passedAnswer (NotTallied why) = refused (number why) (place why)
 
 -- the cost of an action
 abbrev pub costedAnswer : Costed → Read ℕ

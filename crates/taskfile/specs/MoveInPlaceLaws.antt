@@ -1,5 +1,5 @@
 -- Laws of moves in place: what an action does by its bytes, and that a run by the offsets of an accepted file is one of the actions that were read.
-use mathlib.Core.Path.{_≡_, sym, ap, _∙_}
+use mathlib.Core.Path.{_≡_, sym, ap, ap₂, _∙_}
 use Prim.Native.Nat.{ℕ, _+_, _-_, _≤_, _<_, min}
 use native.Mathlib.Nat.{lt-of-not-le}
 use native.Mathlib.Decide.{decLe}
@@ -51,9 +51,9 @@ own-nodes nodes n {k} e =
 
 module _ (f row : List ℕ) (a : ℕ) (s : List ℕ) where
   -- what the action at an offset does is what its number does
-  pub moves : (measure : Walk → ℕ) {k : ℕ} {m : Move} → k ≡ min (ownFrom row a) (length row) → m ≡ performBy measure f (getD row a 0) (take (length row - k) (drop k row)) s → m ≡ moveBy measure f row a s
+  pub moves : (measure : Walk → ℕ) {at k : ℕ} {m : Move} → at ≡ getD row a 0 → k ≡ min (ownFrom row a) (length row) → m ≡ performBy measure f at (take (length row - k) (drop k row)) s → m ≡ moveBy measure f row a s
   unfolding moveBy
-  moves measure e h = h ∙ ap (λ (own : List ℕ). performBy measure f (getD row a 0) own s) (own-nodes row (ownFrom row a) e)
+  moves measure o e h = h ∙ ap₂ (λ (at : ℕ) (own : List ℕ). performBy measure f at own s) o (own-nodes row (ownFrom row a) e)
 
   -- a state keeps its length
   pub move-length : {e : List ℕ} {c : ℕ} → moveAt f row a s ≡ next e c → length e ≡ length s

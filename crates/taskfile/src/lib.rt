@@ -1,5 +1,4 @@
 // Task files: what they are, their limits, and what the row of an index has.
-use facts::Ran;
 use facts::Refusal;
 
 // How many variables and actions a task has. What else its index has stands in a row that the caller lends: where each action starts, and then where its effect and its incoming weight stand; which of all
@@ -54,10 +53,10 @@ pub enum Costed {
     Refused(Refusal),
 }
 
-// What a run answers, and how many nodes the walks of its actions pass.
-pub struct Run {
-    pub answer: Ran,
-    pub passed: usize,
+// What a run on a task answers: the sum, and how many nodes the walks of its actions pass.
+pub enum Tallied {
+    Sum(u32, usize),
+    Refused(Refusal),
 }
 
 // A table by number has an entry for each node and for the terminal, and one at 0.

@@ -3,19 +3,18 @@ use crate::own_nodes;
 use crate::walk_past;
 use facts::Applied;
 use facts::Held;
-use facts::Ran;
 use facts::Refusal;
 use facts::number::offset_at;
 use partial::apply_at;
 use partial::held_at;
-use taskfile::Run;
+use taskfile::Tallied;
 use taskfile::Task;
 ghost use mathlib.Core.Path.{_≡_};
 ghost use Prim.Native.Nat.{_≤_};
 ghost use Rattle.facts.specs.Partial.{partialAt};
-ghost use Rattle.facts.specs.Answers.{ranAnswer, appliedMove, CostMost};
+ghost use Rattle.facts.specs.Answers.{appliedMove, CostMost};
 ghost use Rattle.taskfile.specs.WalkInPlace.{maxPassed, maxWalk, atCost, performAt, passAt, moveAt, passesAt, runList};
-ghost use Rattle.taskfile.specs.Answers.{passedAnswer};
+ghost use Rattle.taskfile.specs.Answers.{sumAnswer, passedAnswer};
 
 // What an action answers, and how many nodes its walk passes.
 pub struct Act {
@@ -54,15 +53,12 @@ pub fn run_list(
     row: &[usize],
     list: &[u16],
     state: &mut [u8],
-) -> Run
-    ensures { λ r. ⌜ ranAnswer (r .answer) ≡ runList count (moveAt (now (file .entry)) (now (row .entry))) (partialAt (now (file .entry)) goal) (now (list .entry)) (now (state .entry)) ⌝ }
+) -> Tallied
+    ensures { λ r. ⌜ sumAnswer r ≡ runList count (moveAt (now (file .entry)) (now (row .entry))) (partialAt (now (file .entry)) goal) (now (list .entry)) (now (state .entry)) ⌝ }
     ensures { λ r. ⌜ passedAnswer r ≡ runList count (passesAt (now (file .entry)) (now (row .entry))) (partialAt (now (file .entry)) goal) (now (list .entry)) (now (state .entry)) ⌝ }
 {
     if Task::MAX_LIST < list.len() {
-        return Run {
-            answer: Ran::Refused(Refusal::Long(Task::MAX_LIST)),
-            passed: 0,
-        };
+        return Tallied::Refused(Refusal::Long(Task::MAX_LIST));
     }
     let mut sum: u32 = 0;
     let mut passed: usize = 0;
@@ -70,32 +66,20 @@ pub fn run_list(
     while i < list.len() {
         let number = list[i] as usize;
         if count <= number {
-            return Run {
-                answer: Ran::Refused(Refusal::Missing(i)),
-                passed,
-            };
+            return Tallied::Refused(Refusal::Missing(i));
         }
         let own = own_nodes(row, number);
         let act = apply_action(file, offset_at(row, number), &row[own..], state);
         let answer = act.answer;
         let Applied::Next(cost) = answer else {
-            return Run {
-                answer: Ran::Refused(Refusal::Blocked(i)),
-                passed,
-            };
+            return Tallied::Refused(Refusal::Blocked(i));
         };
         sum += cost;
         passed += act.passed;
         i += 1;
     }
     if partial::holds_at(file, goal, state) {
-        return Run {
-            answer: Ran::Sum(sum),
-            passed,
-        };
+        return Tallied::Sum(sum, passed);
     }
-    Run {
-        answer: Ran::Refused(Refusal::Unmet(i)),
-        passed,
-    }
+    Tallied::Refused(Refusal::Unmet(i))
 }

@@ -9,7 +9,7 @@ use Rattle.facts.specs.ReadLaws.{not-refused}
 use Rattle.facts.specs.Answers.{fieldAnswer, pastAnswer, checkedAnswer}
 use Rattle.facts.specs.Fields.{nextOf, valueOf, readCount}
 use Rattle.taskfile.specs.TaskFile.{readNodes}
-use Rattle.taskfile.specs.InPlace.{nodesFrom}
+use Rattle.taskfile.specs.Row.{nodesFrom}
 use Rattle.taskfile.specs.InPlaceLaws.{all-terminal, back, marked-part, length-part, levels-part, drawn-no-count, drawn-no-nodes, drawn-falls, drawn-good, count-fits, count-most, all-inside, placed}
 use borrow.Rule.Slice.PartMut.{mid-len}
 use borrow.Author.Needs.{needs}

@@ -9,7 +9,7 @@ use Rattle.facts.specs.Answers.{fieldAnswer, pastAnswer}
 use Rattle.facts.specs.Fields.{nextOf, readPartial}
 use Rattle.facts.specs.FieldLaws.{number-read}
 use Rattle.facts.specs.OperatorLaws.{operator-no-pre, operator-no-effect, operator-no-weight, operator-good}
-use Rattle.taskfile.specs.InPlace.{effectsFrom, incomingFrom}
+use Rattle.taskfile.specs.Row.{effectsFrom, incomingFrom}
 use Rattle.taskfile.specs.IndexLaws.{past-at, past-both}
 use borrow.Author.Needs.{needs}
 use native.Mathlib.Omega.{arith}

@@ -16,28 +16,27 @@ use Rattle.walk.proofs.action.run_list.Statement.{statement}
 use Rattle.walk.proofs.action.run_list.Tie as tie
 
 abbrev Inv-loop : tie.InvT-loop
-Inv-loop file goal actions firsts nodes list state₀ sum₀ passed₀ i₀ state sum passed i =
+Inv-loop file goal count row list state₀ sum₀ passed₀ i₀ state sum passed i =
     (i ≤ length list) × (length state ≡ length state₀) × (sum ≤ maxWalk * i) × (passed ≤ maxPassed * i)
-    × Running (length actions) (moveAt file actions firsts nodes) (partialAt file goal) list state₀ i sum state
-    × Running (length actions) (passesAt file actions firsts nodes) (partialAt file goal) list state₀ i passed state
+    × Running count (moveAt file row) (partialAt file goal) list state₀ i sum state
+    × Running count (passesAt file row) (partialAt file goal) list state₀ i passed state
 
 abbrev μ-loop : tie.MeasureT-loop
-μ-loop file goal actions firsts nodes list state₀ sum₀ passed₀ i₀ state sum passed i = length list - i
+μ-loop file goal count row list state₀ sum₀ passed₀ i₀ state sum passed i = length list - i
 
 -- the state after an action, and what the action did, by its cost and by the nodes passed
 abbrev after : tie.After-apply-action Inv-loop μ-loop → List ℕ
 after c = c .apply-action .last .1 .1 .1 .0
 
-did : (c : tie.After-apply-action Inv-loop μ-loop) → let a = c .before .before .before .before .before .before .before .before .before .before .before .before .before .before .before .before .args in let l = c .before .before .before .before .before .before .before .before .loop in let r = c .apply-action .result in let number = getD (now (a .list)) (l .i) 0 in
-    (appliedMove (r .answer) (after c) ≡ moveAt (now (a .file)) (now (a .action-at)) (now (a .first-node)) (now (a .node-at)) number (l .state))
-    × (atCost (r .passed) (appliedMove (r .answer) (after c)) ≡ passesAt (now (a .file)) (now (a .action-at)) (now (a .first-node)) (now (a .node-at)) number (l .state))
+did : (c : tie.After-apply-action Inv-loop μ-loop) → let a = c .before .before .before .before .before .before .before .before .before .before .before .before .before .before .args in let l = c .before .before .before .before .before .before .before .before .loop in let r = c .apply-action .result in let number = getD (now (a .list)) (l .i) 0 in (appliedMove (r .answer) (after c) ≡ moveAt (now (a .file)) (now (a .row)) number (l .state)) × (atCost (r .passed) (appliedMove (r .answer) (after c)) ≡ passesAt (now (a .file)) (now (a .row)) number (l .state))
 did c =
-    let a = c .before .before .before .before .before .before .before .before .before .before .before .before .before .before .before .before .args in
+    let a = c .before .before .before .before .before .before .before .before .before .before .before .before .before .before .args in
     let l = c .before .before .before .before .before .before .before .before .loop in
-    let first = c .before .before .before .before .offset-within .ensures in
+    let own = c .before .before .before .before .own-nodes .ensures in
+    let start = c .before .before .before .offset-at .ensures in
     let e = c .apply-action .ensures in (
-      moves (now (a .file)) (now (a .action-at)) (now (a .first-node)) (now (a .node-at)) (getD (now (a .list)) (l .i) 0) (l .state) (λ w. w .cost) first (e .0),
-      moves (now (a .file)) (now (a .action-at)) (now (a .first-node)) (now (a .node-at)) (getD (now (a .list)) (l .i) 0) (l .state) (λ w. w .passed) first (e .1 .0),
+      moves (now (a .file)) (now (a .row)) (getD (now (a .list)) (l .i) 0) (l .state) (λ w. w .cost) start own (e .0),
+      moves (now (a .file)) (now (a .row)) (getD (now (a .list)) (l .i) 0) (l .state) (λ w. w .passed) start own (e .1 .0),
     )
 
 -- it costs little
@@ -51,13 +50,10 @@ loop-holds : tie.Need-loop-holds Inv-loop μ-loop
 loop-holds c = (omega arith, refl, omega arith, omega arith, run-starts _ _ _ _ _ (c .if1 .left), run-starts _ _ _ _ _ (c .if1 .left))
 
 cast-number : tie.Need-cast-number Inv-loop μ-loop
-cast-number c = omega (arith, c .shared-slice-known6 .given (c .before .before .loop .i))
+cast-number c = omega (arith, c .shared-slice-known4 .given (c .before .before .loop .i))
 
 returns-2 : tie.Need-returns-2 Inv-loop μ-loop
-returns-2 c =
-    let inv = c .before .before .before .loop .inv in
-    let within = c .before .before .loop-test .taken in
-    (running-missing (inv .4) within (c .if2 .taken), running-missing (inv .5) within (c .if2 .taken))
+returns-2 c = (running-missing (c .before .before .before .loop .inv .4) (c .before .before .loop-test .taken) (c .if2 .taken), running-missing (c .before .before .before .loop .inv .5) (c .before .before .loop-test .taken) (c .if2 .taken))
 
 same-length-2 : tie.Need-same-length-2 Inv-loop μ-loop
 same-length-2 c = c .before .before .before .state .given ∙ c .before .before .before .before .before .before .before .before .before .before .before .before .loop .inv .1
@@ -65,12 +61,9 @@ same-length-2 c = c .before .before .before .state .given ∙ c .before .before 
 returns-3 : tie.Need-returns-3 Inv-loop μ-loop
 returns-3 c =
     let act = c .before .before .before .before in
-    let inv = c .before .before .before .before .before .before .before .before .before .before .before .before .loop .inv in
-    let within = c .before .before .before .before .before .before .before .before .before .before .before .loop-test .taken in
-    let there = c .before .before .before .before .before .before .before .before .before .if2 .left in
     let not = sym (c .enum-told .given .1) in (
-      running-blocked (inv .4) within there (ap (λ (r : Applied). appliedMove r (after act)) not ∙ did act .0),
-      running-blocked (inv .5) within there (ap (λ (r : Applied). atCost (act .apply-action .result .passed) (appliedMove r (after act))) not ∙ did act .1),
+      running-blocked (c .before .before .before .before .before .before .before .before .before .before .before .before .loop .inv .4) (c .before .before .before .before .before .before .before .before .before .before .before .loop-test .taken) (c .before .before .before .before .before .before .before .before .before .if2 .left) (ap (λ (r : Applied). appliedMove r (after act)) not ∙ did act .0),
+      running-blocked (c .before .before .before .before .before .before .before .before .before .before .before .before .loop .inv .5) (c .before .before .before .before .before .before .before .before .before .before .before .loop-test .taken) (c .before .before .before .before .before .before .before .before .before .if2 .left) (ap (λ (r : Applied). atCost (act .apply-action .result .passed) (appliedMove r (after act))) not ∙ did act .1),
     )
 
 add-sum : tie.Need-add-sum Inv-loop μ-loop
@@ -82,31 +75,27 @@ add-passed c = omega (arith, c .before .before .before .before .before .before .
 loop-again : tie.Need-loop-again Inv-loop μ-loop
 loop-again c =
     let act = c .before .before .before .before .before .before in
-    let a = c .before .before .before .before .before .before .before .before .before .before .before .before .before .before .before .before .before .before .before .before .before .before .args in
+    let a = c .before .before .before .before .before .before .before .before .before .before .before .before .before .before .before .before .before .before .before .before .args in
     let l = c .before .before .before .before .before .before .before .before .before .before .before .before .before .before .loop in
-    let within = c .before .before .before .before .before .before .before .before .before .before .before .before .before .loop-test .taken in
-    let there = c .before .before .before .before .before .before .before .before .before .before .before .if2 .left in
     let applies = sym (c .before .before .answer .given .1) in
     let moved = ap (λ (r : Applied). appliedMove r (after act)) applies ∙ did act .0 in (
       omega arith,
-      move-length (now (a .file)) (now (a .action-at)) (now (a .first-node)) (now (a .node-at)) (getD (now (a .list)) (l .i) 0) (l .state) (sym moved) ∙ l .inv .1,
+      move-length (now (a .file)) (now (a .row)) (getD (now (a .list)) (l .i) 0) (l .state) (sym moved) ∙ l .inv .1,
       omega (arith, small (c .before .before)),
       omega (arith, act .apply-action .ensures .1 .1 .1),
-      running-next (l .inv .4) within there moved,
-      running-next (l .inv .5) within there (ap (λ (r : Applied). atCost (act .apply-action .result .passed) (appliedMove r (after act))) applies ∙ did act .1),
+      running-next (l .inv .4) (c .before .before .before .before .before .before .before .before .before .before .before .before .before .loop-test .taken) (c .before .before .before .before .before .before .before .before .before .before .before .if2 .left) moved,
+      running-next (l .inv .5) (c .before .before .before .before .before .before .before .before .before .before .before .before .before .loop-test .taken) (c .before .before .before .before .before .before .before .before .before .before .before .if2 .left) (ap (λ (r : Applied). atCost (act .apply-action .result .passed) (appliedMove r (after act))) applies ∙ did act .1),
     )
 
 returns-4 : tie.Need-returns-4 Inv-loop μ-loop
 returns-4 c =
-    let inv = c .before .before .before .before .loop .inv in
     let met = sym (c .if3 .taken) ∙ c .before .holds-at .ensures in
-    (running-met (inv .4) (c .before .before .before .loop-test .left) met, running-met (inv .5) (c .before .before .before .loop-test .left) met)
+    (running-met (c .before .before .before .before .loop .inv .4) (c .before .before .before .loop-test .left) met, running-met (c .before .before .before .before .loop .inv .5) (c .before .before .before .loop-test .left) met)
 
 returns-5 : tie.Need-returns-5 Inv-loop μ-loop
 returns-5 c =
-    let inv = c .before .before .before .before .loop .inv in
     let unmet = sym (c .if3 .left) ∙ c .before .holds-at .ensures in
-    (running-unmet (inv .4) (c .before .before .before .loop-test .left) unmet, running-unmet (inv .5) (c .before .before .before .loop-test .left) unmet)
+    (running-unmet (c .before .before .before .before .loop .inv .4) (c .before .before .before .loop-test .left) unmet, running-unmet (c .before .before .before .before .loop .inv .5) (c .before .before .before .loop-test .left) unmet)
 
 pub run-list-spec : {M : Type 1} → statement M
 run-list-spec =
@@ -122,12 +111,11 @@ run-list-spec =
     (λ c. c .before .before .before .loop .inv .1)
     returns-2
     (λ c κs. search needs)
+    (λ c κs. search needs)
     (λ c. search needs)
-    (λ c. omega arith)
-    (λ c. search needs)
-    (λ c. omega (arith, c .before .offset-within .ensures))
-    (λ c. omega (arith, c .before .offset-within .ensures))
-    (λ c. omega (arith, c .before .offset-within .ensures))
+    (λ c. omega (arith, c .before .own-nodes .ensures))
+    (λ c. omega (arith, c .before .own-nodes .ensures))
+    (λ c. omega (arith, c .before .own-nodes .ensures))
     (λ c κs. search needs)
     (λ c. search needs)
     (λ c. search needs)
