@@ -68,7 +68,7 @@ actions-end-spec =
     slice-write-row-2
     action-end-requires
     (λ c. search needs)
-    (λ c. omega (arith, after (c .before) .going .within))
+    (λ c. omega (arith, after (c .before) .within))
     (λ c. search needs)
     (λ c. let l = c .before .before .before .before .before .before .before .before .loop in c .before .before .before .before .row .given ∙ stored (l .row) (l .a) (l .at) (l .used) (l .inv .1))
     returns
