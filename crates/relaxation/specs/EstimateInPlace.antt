@@ -9,6 +9,7 @@ use Rattle.estimate.specs.Additive.{Achiever}
 use Rattle.estimate.specs.Ranks.{Roomy}
 use Rattle.taskfile.specs.Task.{maxNodes, WfAction}
 use Rattle.taskfile.specs.TaskFile.{edgeBytes}
+use Rattle.taskfile.specs.Row.{ownFrom}
 use Rattle.taskfile.specs.WalkInPlace.{nodeCount}
 use Rattle.taskfile.specs.PartsInPlace.{edgeIn, nodeIn, actionIn, actionsIn}
 use Rattle.relaxation.specs.Pass.{edgeFor}
@@ -23,9 +24,9 @@ numberFor f node of v table d = let e = edgeIn f (node + (1 + edgeBytes * d)) in
 abbrev pub achieverIn : List ℕ → List ℕ → ℕ → List ℕ → Achiever
 achieverIn f sizes at offsets = actionAchiever leastCostByPass sizes (actionIn f sizes at offsets)
 
--- `count` actions from number a on: `actions` has the offset of each, `firsts` the index of its first node in `nodes`
-abbrev pub achieversIn : List ℕ → List ℕ → List ℕ → List ℕ → List ℕ → ℕ → ℕ → List Achiever
-achieversIn f sizes actions firsts nodes a count = map (actionAchiever leastCostByPass sizes) (actionsIn f sizes actions firsts nodes a count)
+-- `count` actions from number a on, by the row of the index
+abbrev pub achieversIn : List ℕ → List ℕ → List ℕ → ℕ → ℕ → List Achiever
+achieversIn f sizes row a count = map (actionAchiever leastCostByPass sizes) (actionsIn f sizes row a count)
 
 -- an action that stands in an accepted file with these domain sizes: within the file, well-formed, and with few nodes
 pub record Priceable (f sizes : List ℕ) (at : ℕ) (offsets : List ℕ) : Type 0 where
@@ -42,9 +43,9 @@ pub record Climbing (f sizes offsets : List ℕ) (count : ℕ) : Type 0 where
 abbrev pub taskFacts : ℕ
 taskFacts = 1584
 
--- Domain sizes, goal and actions as they stand in a file, well-formed, so that offers in turn end on their estimate: `actions` has the offset of each action,
--- `firsts` the index of its first node in `nodes`.
-pub record Estimable (f sizes : List ℕ) (goal : ℕ) (actions firsts nodes : List ℕ) : Type 0 where
+-- Domain sizes, goal and actions as they stand in a file, well-formed, so that offers in turn end on their estimate; the actions by the row of the index.
+pub record Estimable (f sizes : List ℕ) (goal count : ℕ) (row : List ℕ) : Type 0 where
   pub room : Roomy sizes taskFacts
   pub goal-is : WfPartial sizes (partialAt f goal)
-  pub action : (a : ℕ) → a < length actions → Priceable f sizes (getD actions a 0) (drop (getD firsts a 0) nodes)
+  pub long : count ≤ length row
+  pub action : (a : ℕ) → a < count → Priceable f sizes (getD row a 0) (drop (ownFrom row a) row)

@@ -22,6 +22,7 @@ use Rattle.estimate.specs.InTurn.{afterOwn, InTurn}
 use Rattle.estimate.specs.InTurnLaws.{Turning, turning-start, turning-more, turning-end}
 use Rattle.taskfile.specs.Task.{Edge, Action, maxWeight, WfAction}
 use Rattle.taskfile.specs.TaskFile.{edgeBytes}
+use Rattle.taskfile.specs.Row.{ownFrom}
 use Rattle.taskfile.specs.WalkInPlace.{incomingPlace, nodeCount}
 use Rattle.taskfile.specs.PartsInPlace.{edgeIn, nodeIn, nodesIn, actionIn, actionsIn}
 use Rattle.relaxation.specs.Least.{leastOf}
@@ -157,52 +158,49 @@ pub action-offered : (f sizes : List ℕ) (at : ℕ) (offsets : List ℕ) (of : 
     → HasRanks ranks (afterOffer (record { effect = partialAt f effect; number = offer }) of) → HasRanks ranks (afterOwn (length sizes) (achieverIn f sizes at offsets) of)
 action-offered f sizes at offsets of e o h = offer-same of (sym (alike-partial f e)) (sym o) h
 
-module _ (f sizes actions firsts nodes : List ℕ) where
-  -- `count` of them from number a on, and all
+module _ (f sizes row : List ℕ) (count : ℕ) where
+  -- some of them from number a on, and all
   abbrev from : ℕ → ℕ → List Achiever
-  from a count = achieversIn f sizes actions firsts nodes a count
+  from a some = achieversIn f sizes row a some
 
   abbrev all : List Achiever
-  all = from 0 (length actions)
+  all = from 0 count
 
   -- the actions from number a on are left to offer
   abbrev pub TurningFrom : ℕ → List ℕ → List ℕ → Bool → Type 0
-  TurningFrom a before ranks fell = Turning (length sizes) all (from a (length actions - a)) before ranks fell
+  TurningFrom a before ranks fell = Turning (length sizes) all (from a (count - a)) before ranks fell
 
   -- before the first action
   pub actions-none : (ranks : List ℕ) → TurningFrom 0 ranks ranks false
   actions-none ranks =
-      let same : length actions ≡ length actions - 0 = omega arith in
-      subst (λ (count : ℕ). Turning (length sizes) all (from 0 count) ranks ranks false) same turning-start
+      let same : count ≡ count - 0 = omega arith in
+      subst (λ (some : ℕ). Turning (length sizes) all (from 0 some) ranks ranks false) same turning-start
 
   -- one action more
-  pub actions-more : (a : ℕ) {before ranks next own : List ℕ} {x y fell : Bool} → TurningFrom a before ranks x → a < length actions → own ≡ drop (getD firsts a 0) nodes
-      → HasRanks next (afterOwn (length sizes) (achieverIn f sizes (getD actions a 0) own) (rankNumber ranks)) → Fell ranks next y → (x || y) ≡ fell → TurningFrom (a + 1) before next fell
+  pub actions-more : (a : ℕ) {before ranks next own : List ℕ} {x y fell : Bool} → TurningFrom a before ranks x → a < count → own ≡ drop (ownFrom row a) row
+      → HasRanks next (afterOwn (length sizes) (achieverIn f sizes (getD row a 0) own) (rankNumber ranks)) → Fell ranks next y → (x || y) ≡ fell → TurningFrom (a + 1) before next fell
   actions-more a {before} {ranks} {next} {x = x} g l own-is h =
-      let more : length actions - a ≡ suc (length actions - (a + 1)) = omega arith in
-      let first = achieverIn f sizes (getD actions a 0) (drop (getD firsts a 0) nodes) in
-      let split : from a (length actions - a) ≡ first ∷ from (a + 1) (length actions - (a + 1)) =
-      ap (from a) more ∙ ap (λ (b : ℕ). first ∷ from b (length actions - (a + 1))) (sym (add-one a)) in
+      let more : count - a ≡ suc (count - (a + 1)) = omega arith in
+      let first = achieverIn f sizes (getD row a 0) (drop (ownFrom row a) row) in
+      let split : from a (count - a) ≡ first ∷ from (a + 1) (count - (a + 1)) =
+      ap (from a) more ∙ ap (λ (b : ℕ). first ∷ from b (count - (a + 1))) (sym (add-one a)) in
       turning-more (subst (λ (left : List Achiever). Turning (length sizes) all left before ranks x) split g)
-      (subst (λ (os : List ℕ). HasRanks next (afterOwn (length sizes) (achieverIn f sizes (getD actions a 0) os) (rankNumber ranks))) own-is h)
+      (subst (λ (os : List ℕ). HasRanks next (afterOwn (length sizes) (achieverIn f sizes (getD row a 0) os) (rankNumber ranks))) own-is h)
 
   -- past the last action
-  pub actions-all : (a : ℕ) {before ranks : List ℕ} {fell : Bool} → TurningFrom a before ranks fell → length actions ≤ a → InTurn (length sizes) all before ranks fell
+  pub actions-all : (a : ℕ) {before ranks : List ℕ} {fell : Bool} → TurningFrom a before ranks fell → count ≤ a → InTurn (length sizes) all before ranks fell
   actions-all a {before} {ranks} {fell} g l =
-      let none : length actions - a ≡ 0 = omega arith in
-      turning-end (subst (λ (count : ℕ). Turning (length sizes) all (from a count) before ranks fell) none g)
+      let none : count - a ≡ 0 = omega arith in
+      turning-end (subst (λ (some : ℕ). Turning (length sizes) all (from a some) before ranks fell) none g)
 
   -- their costs are made of numbers by sums and the lesser of two
   pub actions-supported : All (λ x. Supported (x .cost)) all
-  actions-supported = all-supported (actionAchiever leastCostByPass sizes) (by-pass-supported sizes) (actionsIn f sizes actions firsts nodes 0 (length actions))
+  actions-supported = all-supported (actionAchiever leastCostByPass sizes) (by-pass-supported sizes) (actionsIn f sizes row 0 count)
 
 -- all are well-formed
-achievers-from : (f sizes actions firsts nodes : List ℕ) (a count : ℕ)
-    → ((q : ℕ) → q < a + count → Priceable f sizes (getD actions q 0) (drop (getD firsts q 0) nodes)) → All (WfAchiever sizes) (achieversIn f sizes actions firsts nodes a count)
-achievers-from f sizes actions firsts nodes a zero h = tt
-achievers-from f sizes actions firsts nodes a (suc count) h =
-    (achiever-wf (h a (omega arith) .wf), achievers-from f sizes actions firsts nodes (suc a) count (λ q l. h q (omega arith)))
+achievers-from : (f sizes row : List ℕ) (a count : ℕ) → ((q : ℕ) → q < a + count → Priceable f sizes (getD row q 0) (drop (ownFrom row q) row)) → All (WfAchiever sizes) (achieversIn f sizes row a count)
+achievers-from f sizes row a zero h = tt
+achievers-from f sizes row a (suc count) h = (achiever-wf (h a (omega arith) .wf), achievers-from f sizes row (suc a) count (λ q l. h q (omega arith)))
 
-pub achievers-wf : {f sizes : List ℕ} {goal : ℕ} {actions firsts nodes : List ℕ} → Estimable f sizes goal actions firsts nodes
-    → All (WfAchiever sizes) (achieversIn f sizes actions firsts nodes 0 (length actions))
-achievers-wf {f} {sizes} {goal} {actions} {firsts} {nodes} e = achievers-from f sizes actions firsts nodes 0 (length actions) (λ q l. e .action q (omega arith))
+pub achievers-wf : {f sizes : List ℕ} {goal count : ℕ} {row : List ℕ} → Estimable f sizes goal count row → All (WfAchiever sizes) (achieversIn f sizes row 0 count)
+achievers-wf {f} {sizes} {goal} {count} {row} e = achievers-from f sizes row 0 count (λ q l. e .action q (omega arith))

@@ -3,7 +3,7 @@ use mathlib.Core.Path.{_≡_, refl, sym, ap, ap₂, subst, _∙_}
 use Prim.Native.Nat.{ℕ, _+_, _*_, _<_}
 use native.Mathlib.Omega.{arith}
 use mathlib.Core.List.{List, map}
-use lib.ListN.{length, getD, take, drop}
+use lib.ListN.{getD, take, drop}
 use Rattle.facts.specs.Read.{accepted, refused}
 use Rattle.facts.specs.ReadLaws.{not-made}
 use Rattle.facts.specs.Partial.{Partial, partialAt}
@@ -16,10 +16,11 @@ use Rattle.estimate.specs.AdditiveLaws.{estimate-refused, estimate-turned-down,
 use Rattle.estimate.specs.RanksLaws.{roomy}
 use Rattle.taskfile.specs.Task.{Action, Task, WfAction}
 use Rattle.taskfile.specs.TaskFile.{readTask, checkTask}
-use Rattle.taskfile.specs.Index.{Index, Ready}
+use Rattle.taskfile.specs.Row.{ownFrom}
+use Rattle.taskfile.specs.Index.{Ready}
 use Rattle.taskfile.specs.TaskReadLaws.{task-wf, task-limits}
-use Rattle.taskfile.specs.AnswerLaws.{there, starts, sizes-there, starts-count}
-use Rattle.taskfile.specs.PartsInPlaceLaws.{at-some, action-here, located, actions-stood, actions-in-place}
+use Rattle.taskfile.specs.AnswerLaws.{there, starts, sizes-there}
+use Rattle.taskfile.specs.PartsInPlaceLaws.{at-some, action-here, actions-stood, actions-in-place}
 use Rattle.relaxation.specs.Estimate.{actionAchiever, estimate}
 use Rattle.relaxation.specs.EstimatePass.{leastCostByPass}
 use Rattle.relaxation.specs.EstimateLaws.{estimate-by-pass}
@@ -31,40 +32,37 @@ pub estimate-not-read : (f s : List ℕ) {n p : ℕ} → checkTask f ≡ refused
 unfolding checkTask
 estimate-not-read f s h = estimate-refused (λ t. t .sizes) estimate s (not-made (λ (t : Task). tt) (readTask f) h)
 
-module _ (f : List ℕ) {i : Index} (ready : Ready f i) where
+module _ (f : List ℕ) {n count : ℕ} {row : List ℕ} (ready : Ready f n count row) where
   abbrev t : Task
   t = there f ready .task
 
   reads : readTask f ≡ accepted t
   reads = there f ready .reads
 
-  -- the offset of each action
-  abbrev begins : List ℕ
-  begins = take (i .actions) (i .starts)
-
   -- each action stands in the file
-  priceable : (a : ℕ) → a < length begins → Priceable f (t .sizes) (getD begins a 0) (drop (getD (i .firsts) a 0) (i .nodes))
+  priceable : (a : ℕ) → a < count → Priceable f (t .sizes) (getD row a 0) (drop (ownFrom row a) row)
   priceable a h =
-      let x = at-some (t .actions) a (omega (arith, starts-count f ready)) in
-      let lies = located f ready .lies t reads a (x .0) (x .1) in
+      let x = at-some (t .actions) a (omega (arith, there f ready .actions)) in
+      let lies = ready .located .lies t reads a (x .0) (x .1) in
       let stood = actions-stood f ready refl a h in
       record { fits = omega (arith, stood .pre .fits); wf = subst (WfAction (t .sizes)) (sym (action-here f lies)) (task-wf f reads .actions (x .1)); few = stood .few }
 
   -- domain sizes and goal as code finds them
-  module _ {k : ℕ} (e : k ≡ i .variables) {goal : ℕ} (q : goal ≡ 1 + 2 * i .variables) where
+  module _ {k : ℕ} (e : k ≡ n) {goal : ℕ} (q : goal ≡ 1 + 2 * n) where
     abbrev sizes : List ℕ
     sizes = take k (drop 1 f)
 
     goal-is : partialAt f goal ≡ t .goal
     goal-is = ap (partialAt f) q ∙ starts f ready .goal
 
-    pub estimable : Estimable f sizes goal begins (i .firsts) (i .nodes)
+    pub estimable : Estimable f sizes goal count row
     estimable =
         let limits = task-limits f reads in
-        subst (λ (ds : List ℕ). Estimable f ds goal begins (i .firsts) (i .nodes)) (sym (sizes-there f ready e))
+        subst (λ (ds : List ℕ). Estimable f ds goal count row) (sym (sizes-there f ready e))
         (record {
           room = roomy (t .sizes) (limits .variables) (omega arith) (limits .sizes) (omega arith) (omega arith);
           goal-is = subst (WfPartial (t .sizes)) (sym goal-is) (task-wf f reads .goal);
+          long = omega (arith, starts f ready .actions, ready .long);
           action = priceable;
         })
 
@@ -79,11 +77,11 @@ module _ (f : List ℕ) {i : Index} (ready : Ready f i) where
 
       -- the estimate in place is that of the task
       pub answered : {r : Number} {u : Unit {0}} → checkState sizes s ≡ accepted u
-          → r ≡ additive sizes (achieversIn f sizes begins (i .firsts) (i .nodes) 0 (length begins)) (partialAt f goal) s → accepted r ≡ estimateTask f s
+          → r ≡ additive sizes (achieversIn f sizes row 0 count) (partialAt f goal) s → accepted r ≡ estimateTask f s
       answered c h =
           ap accepted
           (h
-          ∙ ap (λ (ds : List ℕ). additive ds (achieversIn f ds begins (i .firsts) (i .nodes) 0 (length begins)) (partialAt f goal) s) (sizes-there f ready e)
+          ∙ ap (λ (ds : List ℕ). additive ds (achieversIn f ds row 0 count) (partialAt f goal) s) (sizes-there f ready e)
           ∙ ap₂ (λ (xs : List Action) (p : Partial). additive (t .sizes) (map (actionAchiever leastCostByPass (t .sizes)) xs) p s) (actions-in-place f ready) goal-is
           ∙ sym (estimate-by-pass (task-wf f reads) s (state-inside (t .sizes) s (state-is ∙ c))))
           ∙ sym (estimate-answers (λ t. t .sizes) estimate s reads (state-is ∙ c))

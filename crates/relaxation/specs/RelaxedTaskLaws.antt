@@ -14,8 +14,9 @@ use Rattle.facts.specs.ListLaws.{zip-map, total-at}
 use Rattle.facts.specs.State.{checkValues}
 use Rattle.facts.specs.StateLaws.{with-width, with-values, with-good}
 use Rattle.taskfile.specs.Task.{Action, Task, maxValues, maxNodes, WfAction}
+use Rattle.taskfile.specs.Row.{ownFrom}
 use Rattle.taskfile.specs.InPlace.{Lies}
-use Rattle.taskfile.specs.Index.{Index, Ready}
+use Rattle.taskfile.specs.Index.{Ready}
 use Rattle.taskfile.specs.WalkInPlace.{nodeCount}
 use Rattle.taskfile.specs.PartsInPlace.{actionIn}
 use Rattle.taskfile.specs.TaskReadLaws.{task-wf, task-limits}
@@ -69,22 +70,22 @@ small-sizes : (sizes : List ℕ) → All (λ d. (2 ≤ d) × (d ≤ maxValues)) 
 small-sizes [] h = tt
 small-sizes (d ∷ sizes) h = (h .0 .1, small-sizes sizes (h .1))
 
-module _ (f : List ℕ) {i : Index} (ready : Ready f i) (a : ℕ) where
+module _ (f : List ℕ) {n count : ℕ} {row : List ℕ} (ready : Ready f n count row) (a : ℕ) where
   abbrev t : Task
   t = there f ready .task
 
   -- where it starts, and where its own nodes begin
   abbrev start : ℕ
-  start = getD (i .starts) a 0
+  start = getD row a 0
 
   abbrev own : List ℕ
-  own = drop (getD (i .firsts) a 0) (i .nodes)
+  own = drop (ownFrom row a) row
 
   small : All (λ d. d ≤ maxValues) (t .sizes)
   small = small-sizes (t .sizes) (task-limits f (there f ready .reads) .sizes)
 
   module _ {x : Action} (h : At (t .actions) a x) where
-    lies : Lies f (t .sizes) x start (getD (i .firsts) a 0) (i .nodes)
+    lies : Lies f (t .sizes) x start (ownFrom row a) row
     lies = ready .located .lies t (there f ready .reads) a x h
 
     wf : WfAction (t .sizes) x
@@ -95,7 +96,7 @@ module _ (f : List ℕ) {i : Index} (ready : Ready f i) (a : ℕ) where
 
   module _ {sizes offsets sets : List ℕ} (s : sizes ≡ t .sizes) (o : offsets ≡ own) (inside : RelaxedInside sizes sets) where
     -- it has a relaxed cost
-    pub relaxable : a < i .actions → Relaxable f sizes start offsets sets
+    pub relaxable : a < count → Relaxable f sizes start offsets sets
     relaxable l =
         let found = at-some (t .actions) a (omega (arith, there f ready .actions)) in
         let x = found .0 in
