@@ -1,6 +1,6 @@
 -- Laws of relaxed costs of task files: the ways in which the check of a relaxed state can go, what an accepted one is, and the relaxed cost of an action
 -- in place.
-use mathlib.Core.Path.{_≡_, refl, sym, ap, ap₂, subst, subst₂, _∙_}
+use mathlib.Core.Path.{_≡_, refl, sym, ap, ap₂, subst, _∙_}
 use mathlib.Core.Bool.{Bool, true, false, _&&_, and-eq-true-iff}
 use Prim.Native.Nat.{ℕ, _^_, _≤_, _<_}
 use native.Mathlib.Omega.{arith}
@@ -94,20 +94,20 @@ module _ (f : List ℕ) {n count : ℕ} {row : List ℕ} (ready : Ready f n coun
     few : nodeCount f start ≤ maxNodes
     few = omega (arith, count-is f lies, total-at (λ (x : Action). length (x .nodes)) h, task-limits f (there f ready .reads) .nodes)
 
-  module _ {sizes offsets sets : List ℕ} (s : sizes ≡ t .sizes) (o : offsets ≡ own) (inside : RelaxedInside sizes sets) where
+  module _ {at : ℕ} {sizes offsets sets : List ℕ} (p : at ≡ start) (s : sizes ≡ t .sizes) (o : offsets ≡ own) (inside : RelaxedInside sizes sets) where
     -- it has a relaxed cost
-    pub relaxable : a < count → Relaxable f sizes start offsets sets
+    pub relaxable : a < count → Relaxable f sizes at offsets sets
     relaxable l =
         let found = at-some (t .actions) a (omega (arith, there f ready .actions)) in
-        let x = found .0 in
         let h = found .1 in
-        subst₂ (λ (ds os : List ℕ). RelaxedInside ds sets → Relaxable f ds start os sets) (sym s) (sym o)
+        rw (p, o)
+        (subst (λ (ds : List ℕ). RelaxedInside ds sets → Relaxable f ds start own sets) (sym s)
         (λ fits. record { wf = subst (WfAction (t .sizes)) (sym (action-here f (lies h))) (wf h); small = small; few = few h; inside = fits })
-        inside
+        inside)
 
     -- and one pass over its nodes finds it
-    pub relaxed-in-place : {x : Action} → At (t .actions) a x → relaxedByPass (actionIn f sizes start offsets) sets ≡ relaxedCost x sets
+    pub relaxed-in-place : {x : Action} → At (t .actions) a x → relaxedByPass (actionIn f sizes at offsets) sets ≡ relaxedCost x sets
     relaxed-in-place {x} h =
-        ap₂ (λ (ds os : List ℕ). relaxedByPass (actionIn f ds start os) sets) s o
-        ∙ ap (λ (y : Action). relaxedByPass y sets) (action-here f (lies h))
-        ∙ sym (relaxed-by-pass (wf h) small sets (subst (λ (ds : List ℕ). RelaxedInside ds sets) s inside))
+        rw (p, s, o)
+        (ap (λ (y : Action). relaxedByPass y sets) (action-here f (lies h))
+        ∙ sym (relaxed-by-pass (wf h) small sets (subst (λ (ds : List ℕ). RelaxedInside ds sets) s inside)))

@@ -2,16 +2,17 @@
 use facts::Checked;
 use facts::Ran;
 use facts::Refusal;
-use facts::number::offset_within;
+use facts::number::offset_at;
 use taskfile::Costed;
 use taskfile::Counted;
 use taskfile::Task;
 use walk::action::run_list;
+use walk::own_nodes;
 use walk::walk_at;
 ghost use mathlib.Core.Path.{_≡_};
 ghost use Rattle.facts.specs.Answers.{checkedAnswer, ranAnswer};
 ghost use Rattle.taskfile.specs.TaskFile.{checkTask, costTask, runTask};
-ghost use Rattle.taskfile.specs.Index.{indexOf, Ready};
+ghost use Rattle.taskfile.specs.Index.{Ready};
 ghost use Rattle.taskfile.specs.Answers.{costedAnswer};
 
 // Whether a task file is accepted: refusals 1 to 6.
@@ -47,12 +48,9 @@ fn cost_in(
     action: usize,
     state: &[u8],
 ) -> Costed
-    requires { ⌜ Ready (now file) (indexOf variables actions (now row)) ⌝ }
+    requires { ⌜ Ready (now file) variables actions (now row) ⌝ }
     ensures { λ r. ⌜ costedAnswer r ≡ costTask (now (file .entry)) action (now (state .entry)) ⌝ }
 {
-    let starts = &row[..Task::FIRSTS];
-    let firsts = &row[Task::FIRSTS..Task::NODES];
-    let nodes = &row[Task::NODES..Task::ROW];
     if actions <= action {
         return Costed::Refused(Refusal::Missing(0));
     }
@@ -60,8 +58,8 @@ fn cost_in(
     match partial::state::check_state(&file[1..last], state) {
         Checked::Refused(why) => Costed::Refused(why),
         Checked::Accepted => {
-            let first = offset_within(firsts, action, nodes.len());
-            let walked = walk_at(file, starts[action], &nodes[first..], state);
+            let own = own_nodes(row, action);
+            let walked = walk_at(file, offset_at(row, action), &row[own..], state);
             Costed::Cost(walked.cost)
         }
     }
@@ -80,24 +78,13 @@ pub fn run(file: &[u8], list: &[u16]) -> Ran
 
 // The same, of a file that is accepted: the run starts from a copy of the initial values.
 fn run_in(file: &[u8], variables: usize, actions: usize, row: &[usize], list: &[u16]) -> Ran
-    requires { ⌜ Ready (now file) (indexOf variables actions (now row)) ⌝ }
+    requires { ⌜ Ready (now file) variables actions (now row) ⌝ }
     ensures { λ r. ⌜ ranAnswer r ≡ runTask (now (file .entry)) (now (list .entry)) ⌝ }
 {
-    let starts = &row[..Task::FIRSTS];
-    let firsts = &row[Task::FIRSTS..Task::NODES];
-    let nodes = &row[Task::NODES..Task::ROW];
     let init = 1 + variables;
     let goal = init + variables;
     let mut state = [0; 24];
     bytes::copy(&file[init..goal], &mut state[..variables]);
-    let run = run_list(
-        file,
-        goal,
-        &starts[..actions],
-        firsts,
-        nodes,
-        list,
-        &mut state[..variables],
-    );
+    let run = run_list(file, goal, actions, row, list, &mut state[..variables]);
     run.answer
 }

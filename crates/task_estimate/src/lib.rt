@@ -7,7 +7,7 @@ use facts::Checked;
 use taskfile::Counted;
 use taskfile::Task;
 ghost use mathlib.Core.Path.{_≡_};
-ghost use Rattle.taskfile.specs.Index.{indexOf, Ready};
+ghost use Rattle.taskfile.specs.Index.{Ready};
 ghost use Rattle.estimate.specs.Answers.{estimatedAnswer};
 ghost use Rattle.relaxation.specs.EstimateTask.{estimateTask};
 
@@ -32,27 +32,16 @@ fn estimate_in(
     row: &[usize],
     state: &[u8],
 ) -> Estimated
-    requires { ⌜ Ready (now file) (indexOf variables actions (now row)) ⌝ }
+    requires { ⌜ Ready (now file) variables actions (now row) ⌝ }
     ensures { λ r. ⌜ estimatedAnswer r ≡ estimateTask (now (file .entry)) (now (state .entry)) ⌝ }
 {
-    let starts = &row[..Task::FIRSTS];
-    let firsts = &row[Task::FIRSTS..Task::NODES];
-    let nodes = &row[Task::NODES..Task::ROW];
     let init = 1 + variables;
     let sizes = &file[1..init];
     match partial::state::check_state(sizes, state) {
         Checked::Refused(why) => Estimated::Refused(why),
         Checked::Accepted => {
             let goal = init + variables;
-            let number = rounds::settle(
-                file,
-                sizes,
-                goal,
-                &starts[..actions],
-                firsts,
-                nodes,
-                state,
-            );
+            let number = rounds::settle(file, sizes, goal, actions, row, state);
             Estimated::Number(number)
         }
     }

@@ -5,16 +5,17 @@ use estimate::ranks::NEVER;
 use estimate::ranks::UNSET;
 use estimate::ranks::ranked;
 use estimate::ranks::sum_rank;
-use facts::number::offset_within;
 use walk::diagram_past;
+use walk::own_nodes;
 ghost use mathlib.Core.Path.{_≡_};
-ghost use Prim.Native.Nat.{ℕ, _<_};
+ghost use Prim.Native.Nat.{ℕ, _≤_, _<_};
 ghost use lib.ListN.{length, getD, drop};
 ghost use Rattle.facts.specs.Partial.{partialAt};
 ghost use Rattle.estimate.specs.Number.{number};
 ghost use Rattle.estimate.specs.Additive.{additive};
 ghost use Rattle.estimate.specs.Ranks.{rankNumber, HasRanks, Roomy, Fresh, Fell};
 ghost use Rattle.estimate.specs.InTurn.{afterOwn, InTurn};
+ghost use Rattle.taskfile.specs.Row.{ownFrom};
 ghost use Rattle.relaxation.specs.EstimateInPlace.{achieverIn, achieversIn, Priceable, Estimable};
 
 // The ranks have room for so many facts, those of 24 variables.
@@ -29,34 +30,23 @@ const FEW: usize = 8;
 
 const FEW_FACTS: usize = 528;
 
-// The estimate from a state: `action_at` has the offset of each action, `first_node` the index of its first node in `node_at`, and the goal starts at `goal`. An array is filled in whole, so the smallest
-// that has room for all facts is taken.
+// The estimate from a state, by the row of the index: there are `count` actions, and the goal starts at `goal`. An array is filled in whole, so the smallest that has room for all facts is taken.
 pub fn settle(
     file: &[u8],
     sizes: &[u8],
     goal: usize,
-    action_at: &[usize],
-    first_node: &[usize],
-    node_at: &[usize],
+    count: usize,
+    row: &[usize],
     state: &[u8],
 ) -> Est
-    requires { ⌜ Estimable (now file) (now sizes) goal (now «action_at») (now «first_node») (now «node_at») ⌝ }
-    ensures { λ r. ⌜ number r ≡ additive (now (sizes .entry)) (achieversIn (now (file .entry)) (now (sizes .entry)) (now («action_at» .entry)) (now («first_node» .entry)) (now («node_at» .entry)) 0 (length (now («action_at» .entry)))) (partialAt (now (file .entry)) goal) (now (state .entry)) ⌝ }
+    requires { ⌜ Estimable (now file) (now sizes) goal count (now row) ⌝ }
+    ensures { λ r. ⌜ number r ≡ additive (now (sizes .entry)) (achieversIn (now (file .entry)) (now (sizes .entry)) (now (row .entry)) 0 count) (partialAt (now (file .entry)) goal) (now (state .entry)) ⌝ }
 {
     if sizes.len() <= FEWEST {
         let mut fewest = [UNSET; FEWEST_FACTS];
-        return settle_in(
-            file,
-            sizes,
-            goal,
-            action_at,
-            first_node,
-            node_at,
-            state,
-            &mut fewest,
-        );
+        return settle_in(file, sizes, goal, count, row, state, &mut fewest);
     }
-    settle_more(file, sizes, goal, action_at, first_node, node_at, state)
+    settle_more(file, sizes, goal, count, row, state)
 }
 
 // The same for a task that may have more variables.
@@ -64,38 +54,19 @@ fn settle_more(
     file: &[u8],
     sizes: &[u8],
     goal: usize,
-    action_at: &[usize],
-    first_node: &[usize],
-    node_at: &[usize],
+    count: usize,
+    row: &[usize],
     state: &[u8],
 ) -> Est
-    requires { ⌜ Estimable (now file) (now sizes) goal (now «action_at») (now «first_node») (now «node_at») ⌝ }
-    ensures { λ r. ⌜ number r ≡ additive (now (sizes .entry)) (achieversIn (now (file .entry)) (now (sizes .entry)) (now («action_at» .entry)) (now («first_node» .entry)) (now («node_at» .entry)) 0 (length (now («action_at» .entry)))) (partialAt (now (file .entry)) goal) (now (state .entry)) ⌝ }
+    requires { ⌜ Estimable (now file) (now sizes) goal count (now row) ⌝ }
+    ensures { λ r. ⌜ number r ≡ additive (now (sizes .entry)) (achieversIn (now (file .entry)) (now (sizes .entry)) (now (row .entry)) 0 count) (partialAt (now (file .entry)) goal) (now (state .entry)) ⌝ }
 {
     if sizes.len() <= FEW {
         let mut few = [UNSET; FEW_FACTS];
-        return settle_in(
-            file,
-            sizes,
-            goal,
-            action_at,
-            first_node,
-            node_at,
-            state,
-            &mut few,
-        );
+        return settle_in(file, sizes, goal, count, row, state, &mut few);
     }
     let mut ranks = [UNSET; FACTS];
-    settle_in(
-        file,
-        sizes,
-        goal,
-        action_at,
-        first_node,
-        node_at,
-        state,
-        &mut ranks,
-    )
+    settle_in(file, sizes, goal, count, row, state, &mut ranks)
 }
 
 // The same in fresh ranks: offers from the start until no rank falls, and then the goal facts' sum.
@@ -103,18 +74,17 @@ fn settle_in(
     file: &[u8],
     sizes: &[u8],
     goal: usize,
-    action_at: &[usize],
-    first_node: &[usize],
-    node_at: &[usize],
+    count: usize,
+    row: &[usize],
     state: &[u8],
     ranks: &mut [u64],
 ) -> Est
-    requires { ⌜ Estimable (now file) (now sizes) goal (now «action_at») (now «first_node») (now «node_at») × Roomy (now sizes) (length (now ranks)) × Fresh (now ranks) ⌝ }
-    ensures { λ r. ⌜ number r ≡ additive (now (sizes .entry)) (achieversIn (now (file .entry)) (now (sizes .entry)) (now («action_at» .entry)) (now («first_node» .entry)) (now («node_at» .entry)) 0 (length (now («action_at» .entry)))) (partialAt (now (file .entry)) goal) (now (state .entry)) ⌝ }
+    requires { ⌜ Estimable (now file) (now sizes) goal count (now row) × Roomy (now sizes) (length (now ranks)) × Fresh (now ranks) ⌝ }
+    ensures { λ r. ⌜ number r ≡ additive (now (sizes .entry)) (achieversIn (now (file .entry)) (now (sizes .entry)) (now (row .entry)) 0 count) (partialAt (now (file .entry)) goal) (now (state .entry)) ⌝ }
 {
     estimate::start(state, ranks);
     loop {
-        if offer_actions(file, sizes, action_at, first_node, node_at, ranks) {
+        if offer_actions(file, sizes, count, row, ranks) {
             continue;
         }
         let sum = offers::sum_at(file, goal, sizes.len(), ranks);
@@ -123,21 +93,14 @@ fn settle_in(
 }
 
 // All actions offer in turn, each by the numbers as they are then; whether a rank fell.
-fn offer_actions(
-    file: &[u8],
-    sizes: &[u8],
-    action_at: &[usize],
-    first_node: &[usize],
-    node_at: &[usize],
-    ranks: &mut [u64],
-) -> bool
-    requires { ⌜ ((a : ℕ) → a < length (now «action_at») → Priceable (now file) (now sizes) (getD (now «action_at») a 0) (drop (getD (now «first_node») a 0) (now «node_at»))) ⌝ }
-    ensures { λ r. ⌜ InTurn (length (now (sizes .entry))) (achieversIn (now (file .entry)) (now (sizes .entry)) (now («action_at» .entry)) (now («first_node» .entry)) (now («node_at» .entry)) 0 (length (now («action_at» .entry)))) (now (ranks .entry)) (now (ranks .exit)) r ⌝ }
+fn offer_actions(file: &[u8], sizes: &[u8], count: usize, row: &[usize], ranks: &mut [u64]) -> bool
+    requires { ⌜ (count ≤ length (now row)) × ((a : ℕ) → a < count → Priceable (now file) (now sizes) (getD (now row) a 0) (drop (ownFrom (now row) a) (now row))) ⌝ }
+    ensures { λ r. ⌜ InTurn (length (now (sizes .entry))) (achieversIn (now (file .entry)) (now (sizes .entry)) (now (row .entry)) 0 count) (now (ranks .entry)) (now (ranks .exit)) r ⌝ }
 {
     let mut fell = false;
-    for a in 0..action_at.len() {
-        let first = offset_within(first_node, a, node_at.len());
-        let more = offer_action(file, sizes, action_at[a], &node_at[first..], ranks);
+    for a in 0..count {
+        let own = own_nodes(row, a);
+        let more = offer_action(file, sizes, row[a], &row[own..], ranks);
         fell = fell || more;
     }
     fell

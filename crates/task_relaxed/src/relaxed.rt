@@ -3,18 +3,17 @@ use facts::Checked;
 use facts::Refusal;
 use facts::number::byte_at;
 use facts::number::offset_at;
-use facts::number::offset_within;
 use partial::stray;
 use taskfile::Costed;
-use taskfile::Task;
 use walk::diagram_at;
 use walk::edge_for;
+use walk::own_nodes;
 ghost use mathlib.Core.Path.{_≡_};
 ghost use Prim.Native.Nat.{_+_, _*_, _≤_, min};
 ghost use lib.ListN.{getD};
 ghost use Rattle.facts.specs.Answers.{checkedAnswer};
 ghost use Rattle.taskfile.specs.Task.{maxValues, maxNodes, maxWeight};
-ghost use Rattle.taskfile.specs.Index.{indexOf, Ready};
+ghost use Rattle.taskfile.specs.Index.{Ready};
 ghost use Rattle.taskfile.specs.PartsInPlace.{nodeIn, actionIn};
 ghost use Rattle.relaxation.specs.Relaxed.{SetInside};
 ghost use Rattle.relaxation.specs.Pass.{leastAt};
@@ -35,12 +34,9 @@ pub fn relaxed_in(
     action: usize,
     sets: &[u8],
 ) -> Costed
-    requires { ⌜ Ready (now file) (indexOf variables actions (now row)) ⌝ }
+    requires { ⌜ Ready (now file) variables actions (now row) ⌝ }
     ensures { λ r. ⌜ costedAnswer r ≡ relaxedTask (now (file .entry)) action (now (sets .entry)) ⌝ }
 {
-    let starts = &row[..Task::FIRSTS];
-    let firsts = &row[Task::FIRSTS..Task::NODES];
-    let nodes = &row[Task::NODES..Task::ROW];
     if actions <= action {
         return Costed::Refused(Refusal::Missing(0));
     }
@@ -49,8 +45,8 @@ pub fn relaxed_in(
     match check_sets(sizes, sets) {
         Checked::Refused(why) => Costed::Refused(why),
         Checked::Accepted => {
-            let first = offset_within(firsts, action, nodes.len());
-            Costed::Cost(relaxed_at(file, sizes, starts[action], &nodes[first..], sets))
+            let own = own_nodes(row, action);
+            Costed::Cost(relaxed_at(file, sizes, offset_at(row, action), &row[own..], sets))
         }
     }
 }

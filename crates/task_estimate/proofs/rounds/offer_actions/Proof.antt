@@ -6,6 +6,7 @@ use native.Mathlib.Omega.{arith}
 use lib.ListN.{length, getD}
 use denote.Ref.{now}
 use Rattle.estimate.specs.RanksLaws.{or-first, or-second}
+use Rattle.taskfile.specs.Row.{ownFrom}
 use Rattle.taskfile.specs.MoveInPlaceLaws.{own-nodes}
 use Rattle.relaxation.specs.EstimateInPlace.{Priceable}
 use Rattle.relaxation.specs.EstimateInPlaceLaws.{TurningFrom, actions-none, actions-more, actions-all}
@@ -14,36 +15,35 @@ use Rattle.task_estimate.proofs.rounds.offer_actions.Statement.{stateme
 use Rattle.task_estimate.proofs.rounds.offer_actions.Tie as tie
 
 abbrev Inv-loop : tie.InvT-loop
-Inv-loop file sizes actions firsts nodes ranks₀ fell₀ a₀ end ranks fell a =
-    (a ≤ length actions) × (length ranks ≡ length ranks₀) × TurningFrom file sizes actions firsts nodes a ranks₀ ranks fell
+Inv-loop file sizes count row ranks₀ fell₀ a₀ ranks fell a = (a ≤ count) × (length ranks ≡ length ranks₀) × TurningFrom file sizes row count a ranks₀ ranks fell
 
 abbrev μ-loop : tie.MeasureT-loop
-μ-loop file sizes actions firsts nodes ranks₀ fell₀ a₀ end ranks fell a = length actions - a
+μ-loop file sizes count row ranks₀ fell₀ a₀ ranks fell a = count - a
 
 offer-action-requires : tie.Need-offer-action-requires Inv-loop μ-loop
 offer-action-requires c κs =
-    let s = c .before .before .before .before .before .before .before .before .before .before .before .before in
+    let s = c .before .before .before .before .before .before .before .before .before .before in
+    let row = now (s .args .row) in
     let a = c .before .before .before .before .before .loop .a in
-    subst (Priceable (now (s .args .file)) (now (s .args .sizes)) (getD (now (s .args .action-at)) a 0)) (sym (own-nodes (now (s .args .node-at)) (getD (now (s .args .first-node)) a 0) (c .before .before .before .offset-within .ensures))) (s .pre a (omega arith))
+    subst (Priceable (now (s .args .file)) (now (s .args .sizes)) (getD row a 0)) (sym (own-nodes row (ownFrom row a) (c .before .before .before .own-nodes .ensures))) (s .pre .1 a (omega arith))
 
 loop-again : tie.Need-loop-again Inv-loop μ-loop
 loop-again c =
-    let call = c .before .before .before in
-    let l = call .before .before .before .before .before .before .loop in
-    let s = call .before .before .before .before .before .before .before .before .before .before .before .before .before .args in
-    let offered = call .offer-action .ensures in (
+    let s = c .before .before .before .before .before .before .before .before .before .before .before .before .before .before .args in
+    let row = now (s .row) in
+    let l = c .before .before .before .before .before .before .before .before .before .loop in
+    let offered = c .before .before .before .offer-action .ensures in (
       omega arith,
       offered .1 .count ∙ l .inv .1,
-      actions-more (now (s .file)) (now (s .sizes)) (now (s .action-at)) (now (s .first-node)) (now (s .node-at)) (l .a) (l .inv .2) (omega arith)
-          (own-nodes (now (s .node-at)) (getD (now (s .first-node)) (l .a) 0) (call .before .before .before .before .offset-within .ensures)) (offered .0) (offered .1)
+      actions-more (now (s .file)) (now (s .sizes)) row (s .count) (l .a) (l .inv .2) (omega arith) (own-nodes row (ownFrom row (l .a)) (c .before .before .before .before .before .before .before .own-nodes .ensures)) (offered .0) (offered .1)
           (elim (c .if1 .came) [ inl t ↦ or-first _ (t .0 .taken) (t .1) | inr t ↦ or-second (t .0 .left) (t .1) ]),
     )
 
 returns : tie.Need-returns Inv-loop μ-loop
 returns c =
-    let s = c .before .before .before .before .before .before .before .before .args in
+    let s = c .before .before .before .before .before .before .args in
     let l = c .before .loop in
-    actions-all (now (s .file)) (now (s .sizes)) (now (s .action-at)) (now (s .first-node)) (now (s .node-at)) (l .a) (l .inv .2) (omega arith)
+    actions-all (now (s .file)) (now (s .sizes)) (now (s .row)) (s .count) (l .a) (l .inv .2) (omega arith)
 
 pub offer-actions-spec : {M : Type 1} → statement M
 offer-actions-spec =
@@ -51,13 +51,13 @@ offer-actions-spec =
     (tie.spec
     Inv-loop
     μ-loop
-    (λ c. let s = c .before .before .before .before .before .before .args in (omega arith, refl, actions-none (now (s .file)) (now (s .sizes)) (now (s .action-at)) (now (s .first-node)) (now (s .node-at)) (now (s .ranks))))
+    (λ c. let s = c .before .before .before .before .args in (omega arith, refl, actions-none (now (s .file)) (now (s .sizes)) (now (s .row)) (s .count) (now (s .ranks))))
     (λ c κs. search needs)
+    (λ c. omega (arith, c .before .before .before .before .before .before .before .pre .0))
+    (λ c. omega (arith, c .before .before .before .before .before .before .before .before .pre .0))
     (λ c. search needs)
-    (λ c. omega arith)
-    (λ c. search needs)
-    (λ c. omega (arith, c .before .offset-within .ensures))
-    (λ c. omega (arith, c .before .offset-within .ensures))
+    (λ c. omega (arith, c .before .own-nodes .ensures))
+    (λ c. omega (arith, c .before .own-nodes .ensures))
     (λ c. search needs)
     offer-action-requires
     (λ c. omega arith)

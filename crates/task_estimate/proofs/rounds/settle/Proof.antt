@@ -10,7 +10,7 @@ settle-spec =
     tie.close
     (tie.spec
     (λ c. search needs)
-    (λ c κs. let s = c .before .before .before .before .before .before .before .before in (s .pre, roomy-few (s .pre .room) (omega (arith, c .before .if1 .taken)), fresh-filled 198 _ (omega arith)))
+    (λ c κs. let s = c .before .before .before .before .before .before in (s .pre, roomy-few (s .pre .room) (omega (arith, c .before .if1 .taken)), fresh-filled 198 _ (omega arith)))
     (λ c. c .before .settle-in .ensures)
-    (λ c κs. c .before .before .before .before .before .before .before .pre)
+    (λ c κs. c .before .before .before .before .before .pre)
     (λ c. c .settle-more .ensures))

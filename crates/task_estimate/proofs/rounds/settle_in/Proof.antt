@@ -15,45 +15,40 @@ use Rattle.task_estimate.proofs.rounds.settle_in.Statement.{statement}
 use Rattle.task_estimate.proofs.rounds.settle_in.Tie as tie
 
 abbrev Inv-loop : tie.InvT-loop
-Inv-loop file sizes goal actions firsts nodes state ranks₀ ranks = (length ranks ≡ length ranks₀) × Nearing sizes (achieversIn file sizes actions firsts nodes 0 (length actions)) state (rankNumber ranks)
+Inv-loop file sizes goal count row state ranks₀ ranks = (length ranks ≡ length ranks₀) × Nearing sizes (achieversIn file sizes row 0 count) state (rankNumber ranks)
 
 abbrev μ-loop : tie.MeasureT-loop
-μ-loop file sizes goal actions firsts nodes state ranks₀ ranks = total (λ r. r) ranks
+μ-loop file sizes goal count row state ranks₀ ranks = total (λ r. r) ranks
 
 loop-holds : tie.Need-loop-holds Inv-loop μ-loop
 loop-holds c =
-    let s = c .before .before .before .before .before .before .before .before .before .before .before in
+    let s = c .before .before .before .before .before .before .before .before .before in
     let a = s .args in
-    (refl, nearing-start _ _ _ (achievers-wf (s .pre .0)) (actions-supported (now (a .file)) (now (a .sizes)) (now (a .action-at)) (now (a .first-node)) (now (a .node-at))) (roomy-same (s .pre .1) (c .before .ranks .given)) (started-fresh (s .pre .2) (now (a .state)) (c .before .before .start .ensures .1)))
+    (refl, nearing-start _ _ _ (achievers-wf (s .pre .0)) (actions-supported (now (a .file)) (now (a .sizes)) (now (a .row)) (a .count)) (roomy-same (s .pre .1) (c .before .ranks .given)) (started-fresh (s .pre .2) (now (a .state)) (c .before .before .start .ensures .1)))
 
 loop-less : tie.Need-loop-less Inv-loop μ-loop
 loop-less c = turn-fell (c .before .before .before .offer-actions .ensures) .less (c .if1 .taken)
 
 loop-again : tie.Need-loop-again Inv-loop μ-loop
 loop-again c =
-    let turn = c .before .before .before in
-    let l = turn .before .before .loop in
-    let s = turn .before .before .before .before .before .before .before .before .before .before .before .before .before .before in
+    let s = c .before .before .before .before .before .before .before .before .before .before .before .before .before .before .before in
     let a = s .args in
-    let t = turn .offer-actions .ensures in
-    (turn-fell t .count ∙ l .inv .0, nearing-on _ _ _ (achievers-wf (s .pre .0)) (actions-supported (now (a .file)) (now (a .sizes)) (now (a .action-at)) (now (a .first-node)) (now (a .node-at))) (roomy-same (s .pre .1) (l .inv .0 ∙ turn .before .before .before .before .ranks .given)) (l .inv .1) t)
+    let l = c .before .before .before .before .before .loop in
+    let t = c .before .before .before .offer-actions .ensures in
+    (turn-fell t .count ∙ l .inv .0, nearing-on _ _ _ (achievers-wf (s .pre .0)) (actions-supported (now (a .file)) (now (a .sizes)) (now (a .row)) (a .count)) (roomy-same (s .pre .1) (l .inv .0 ∙ c .before .before .before .before .before .before .before .ranks .given)) (l .inv .1) t)
 
 same-length : tie.Need-same-length Inv-loop μ-loop
-same-length c =
-    let turn = c .before .before .before .before .before .before in
-    turn-fell (turn .offer-actions .ensures) .count ∙ turn .before .before .loop .inv .0 ∙ turn .before .before .before .before .ranks .given
+same-length c = turn-fell (c .before .before .before .before .before .before .offer-actions .ensures) .count ∙ c .before .before .before .before .before .before .before .before .loop .inv .0 ∙ c .before .before .before .before .before .before .before .before .before .before .ranks .given
 
 returns : tie.Need-returns Inv-loop μ-loop
 returns c =
-    let told = c .before .before .before in
-    let turn = told .before .before .before in
-    let l = turn .before .before .loop in
-    let s = turn .before .before .before .before .before .before .before .before .before .before .before .before .before .before in
+    let s = c .before .before .before .before .before .before .before .before .before .before .before .before .before .before .before .before .before .before in
     let a = s .args in
-    let t = turn .offer-actions .ensures in
+    let l = c .before .before .before .before .before .before .before .before .loop in
+    let t = c .before .before .before .before .before .before .offer-actions .ensures in
     c .ranked .ensures
     ∙ c .before .sum-at .ensures .0
-    ∙ nearing-end _ _ _ (achievers-wf (s .pre .0)) (actions-supported (now (a .file)) (now (a .sizes)) (now (a .action-at)) (now (a .first-node)) (now (a .node-at))) (roomy-same (s .pre .1) (l .inv .0 ∙ turn .before .before .before .before .ranks .given)) (l .inv .1) t (told .if1 .left) (s .pre .0 .goal-is)
+    ∙ nearing-end _ _ _ (achievers-wf (s .pre .0)) (actions-supported (now (a .file)) (now (a .sizes)) (now (a .row)) (a .count)) (roomy-same (s .pre .1) (l .inv .0 ∙ c .before .before .before .before .before .before .before .before .before .before .ranks .given)) (l .inv .1) t (c .before .before .before .if1 .left) (s .pre .0 .goal-is)
 
 pub settle-in-spec : {M : Type 1} → statement M
 settle-in-spec =
@@ -63,7 +58,7 @@ settle-in-spec =
     μ-loop
     (λ c κs. search needs)
     loop-holds
-    (λ c κs. search needs)
+    (λ c κs. let e = c .before .before .before .before .before .before .before .before .before .before .before .pre .0 in (e .long, e .action))
     loop-less
     loop-again
     (λ c κs. search needs)

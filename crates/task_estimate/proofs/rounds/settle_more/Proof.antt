@@ -11,8 +11,8 @@ settle-more-spec =
     tie.close
     (tie.spec
     (λ c. search needs)
-    (λ c κs. let s = c .before .before .before .before .before .before .before .before in (s .pre, roomy-few (s .pre .room) (omega (arith, c .before .if1 .taken)), fresh-filled 528 _ (omega arith)))
+    (λ c κs. let s = c .before .before .before .before .before .before in (s .pre, roomy-few (s .pre .room) (omega (arith, c .before .if1 .taken)), fresh-filled 528 _ (omega arith)))
     (λ c. c .before .settle-in .ensures)
     (λ c. search needs)
-    (λ c κs. let s = c .before .before .before .before .before .before .before .before in (s .pre, s .pre .room, fresh-filled taskFacts _ (omega arith)))
+    (λ c κs. let s = c .before .before .before .before .before .before in (s .pre, s .pre .room, fresh-filled taskFacts _ (omega arith)))
     (λ c. c .before .settle-in2 .ensures))

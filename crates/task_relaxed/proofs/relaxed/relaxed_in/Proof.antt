@@ -2,14 +2,13 @@
 use Prim.Native.Nat.{_+_, _-_}
 use mathlib.Core.Path.{_≡_, sym, ap, _∙_}
 use denote.Ref.{now}
-use lib.ListN.{getD, take, drop}
 use Rattle.facts.specs.Answers.{checkedAnswer}
+use Rattle.taskfile.specs.Row.{ownFrom}
 use Rattle.taskfile.specs.MoveInPlaceLaws.{own-nodes}
 use Rattle.taskfile.specs.AnswerLaws.{starts, sizes-there, ask-missing, ask-state, ask-is}
 use Rattle.relaxation.specs.Relaxed.{relaxedCost}
 use Rattle.relaxation.specs.RelaxedTask.{checkRelaxed}
 use Rattle.relaxation.specs.RelaxedTaskLaws.{relaxed-inside, relaxable, relaxed-in-place}
-use Rattle.taskfile.specs.TaskIndexLaws.{row-long}
 use borrow.Author.Needs.{needs}
 use native.Mathlib.Omega.{arith}
 use Rattle.task_relaxed.proofs.relaxed.relaxed_in.Statement.{statement}
@@ -20,59 +19,47 @@ same : (c : tie.Start) → 1 + c .args .variables - 1 ≡ c .args .variables
 same c = omega arith
 
 returns : tie.Need-returns
-returns c = let s = c .before .before .before .before .before .before .before in sym (ask-missing (now (s .args .file)) (s .pre) checkRelaxed relaxedCost (s .args .action) (now (s .args .sets)) (c .if1 .taken))
-
-mul-relaxed-at : tie.Need-mul-relaxed-at
-mul-relaxed-at c = omega (arith, c .before .before .before .before .before .if1 .left, starts _ (c .before .before .before .before .before .before .before .before .before .before .before .before .pre) .actions)
-
-shared-slice-read-relaxed-at : tie.Need-shared-slice-read-relaxed-at
-shared-slice-read-relaxed-at c = omega (arith, c .before .before .before .before .before .before .if1 .left, starts _ (c .before .before .before .before .before .before .before .before .before .before .before .before .before .pre) .actions, c .before .before .before .before .before .before .before .before .before .before .before .before .before .pre .starts-long)
+returns c = let s = c .before .before .before .before in sym (ask-missing (now (s .args .file)) (s .pre) checkRelaxed relaxedCost (s .args .action) (now (s .args .sets)) (c .if1 .taken))
 
 relaxed-at-requires : tie.Need-relaxed-at-requires
 relaxed-at-requires c κs =
-    let s = c .before .before .before .before .before .before .before .before .before .before .before .before .before .before in
+    let s = c .before .before .before .before .before .before .before .before .before .before .before in
     let f = now (s .args .file) in
+    let row = now (s .args .row) in
     let ok = sym (c .before .before .before .before .before .check-sets .ensures) ∙ ap checkedAnswer (c .before .before .before .enum-told .given .1) in
-    relaxable f (s .pre) (s .args .action) (sizes-there f (s .pre) (same s)) (own-nodes (take 128 (drop 128 (now (s .args .row)))) (getD (take 32 (drop 96 (now (s .args .row)))) (s .args .action) 0) (c .before .before .offset-within .ensures)) (relaxed-inside _ _ ok) (c .before .before .before .before .before .before .before .if1 .left)
+    relaxable f (s .pre) (s .args .action) (c .before .offset-at .ensures) (sizes-there f (s .pre) (same s)) (own-nodes row (ownFrom row (s .args .action)) (c .before .before .own-nodes .ensures)) (relaxed-inside _ _ ok) (c .before .before .before .before .before .before .before .if1 .left)
 
 returns-2 : tie.Need-returns-2
 returns-2 c =
-    let s = c .before .before .before .before .before .before .before .before .before .before .before .before in
+    let s = c .before .before .before .before .before .before .before .before .before in
     sym (ask-state (now (s .args .file)) (s .pre) checkRelaxed relaxedCost (s .args .action) (now (s .args .sets)) (c .before .before .before .before .before .if1 .left) (same s) (sym (c .before .before .before .check-sets .ensures) ∙ ap checkedAnswer (c .before .why .given .1)))
 
 returns-3 : tie.Need-returns-3
 returns-3 c =
-    let s = c .before .before .before .before .before .before .before .before .before .before .before .before .before .before .before in
+    let s = c .before .before .before .before .before .before .before .before .before .before .before .before in
     let f = now (s .args .file) in
+    let row = now (s .args .row) in
     let ok = sym (c .before .before .before .before .before .before .check-sets .ensures) ∙ ap checkedAnswer (c .before .before .before .before .enum-told .given .1) in
     sym (ask-is f (s .pre) checkRelaxed relaxedCost (s .args .action) (now (s .args .sets)) (c .before .before .before .before .before .before .before .before .if1 .left) (same s) ok (λ x h good.
-    c .relaxed-at .ensures ∙ relaxed-in-place f (s .pre) (s .args .action) (sizes-there f (s .pre) (same s)) (own-nodes (take 128 (drop 128 (now (s .args .row)))) (getD (take 32 (drop 96 (now (s .args .row)))) (s .args .action) 0) (c .before .before .before .offset-within .ensures)) (relaxed-inside _ _ ok) h))
+    c .relaxed-at .ensures ∙ relaxed-in-place f (s .pre) (s .args .action) (c .before .before .offset-at .ensures) (sizes-there f (s .pre) (same s)) (own-nodes row (ownFrom row (s .args .action)) (c .before .before .before .own-nodes .ensures)) (relaxed-inside _ _ ok) h))
 
 pub relaxed-in-spec : {M : Type 1} → statement M
 relaxed-in-spec =
     tie.close
     (tie.spec
-    (λ c. sym (c .before .before .before .before .pre .starts-long))
-    (λ c. search needs)
-    (λ c. search needs)
-    (λ c. omega (arith, row-long _ (now (c .before .before .before .before .args .row)) (c .before .before .before .before .pre)))
-    (λ c. search needs)
-    (λ c. search needs)
-    (λ c. omega (arith, row-long _ (now (c .before .before .before .before .before .args .row)) (c .before .before .before .before .before .pre)))
     returns
-    (λ c. omega (arith, starts _ (c .before .before .before .before .before .before .before .pre) .fits))
+    (λ c. omega (arith, starts _ (c .before .before .before .before .pre) .fits))
     (λ c. search needs)
     (λ c. search needs)
-    (λ c. omega (arith, starts _ (c .before .before .before .before .before .before .before .pre) .fits))
+    (λ c. omega (arith, starts _ (c .before .before .before .before .pre) .fits))
     (λ c κs. search needs)
     (λ c. search needs)
     (λ c. search needs)
     (λ c κs. search needs)
-    mul-relaxed-at
-    shared-slice-read-relaxed-at
+    (λ c κs. search needs)
     (λ c. search needs)
-    (λ c. search needs)
-    (λ c. search needs)
+    (λ c. omega (arith, c .before .own-nodes .ensures))
+    (λ c. omega (arith, c .before .own-nodes .ensures))
     (λ c. search needs)
     relaxed-at-requires
     returns-2
