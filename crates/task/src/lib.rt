@@ -5,6 +5,7 @@ use facts::Refusal;
 use facts::number::offset_at;
 use taskfile::Costed;
 use taskfile::Counted;
+use taskfile::Tallied;
 use taskfile::Task;
 use walk::action::run_list;
 use walk::own_nodes;
@@ -85,6 +86,8 @@ fn run_in(file: &[u8], variables: usize, actions: usize, row: &[usize], list: &[
     let goal = init + variables;
     let mut state = [0; 24];
     bytes::copy(&file[init..goal], &mut state[..variables]);
-    let run = run_list(file, goal, actions, row, list, &mut state[..variables]);
-    run.answer
+    match run_list(file, goal, actions, row, list, &mut state[..variables]) {
+        Tallied::Refused(why) => Ran::Refused(why),
+        Tallied::Sum(sum, _) => Ran::Sum(sum),
+    }
 }

@@ -1,16 +1,15 @@
 -- `task::cost_in` meets its contract: the number, the state, and then the walk by the index. Assumes nothing.
 use Prim.Native.Nat.{ℕ, _+_, _-_}
-use mathlib.Core.Path.{_≡_, sym, ap, _∙_}
+use mathlib.Core.Path.{_≡_, sym, ap, ap₂, _∙_}
 use mathlib.Core.List.{List}
 use denote.Ref.{now}
-use lib.ListN.{getD, take, drop}
 use Rattle.facts.specs.Answers.{checkedAnswer}
 use Rattle.facts.specs.State.{checkState}
 use Rattle.taskfile.specs.Task.{cost}
+use Rattle.taskfile.specs.Row.{ownFrom}
 use Rattle.taskfile.specs.WalkInPlace.{walkAt}
 use Rattle.taskfile.specs.MoveInPlaceLaws.{own-nodes}
 use Rattle.taskfile.specs.AnswerLaws.{starts, ask-missing, ask-state, ask-is, walk-cost}
-use Rattle.taskfile.specs.TaskIndexLaws.{row-long}
 use borrow.Author.Needs.{needs}
 use native.Mathlib.Omega.{arith}
 use Rattle.task.proofs.cost_in.Statement.{statement}
@@ -21,30 +20,19 @@ same : (c : tie.Start) → 1 + c .args .variables - 1 ≡ c .args .variables
 same c = omega arith
 
 returns : tie.Need-returns
-returns c = let s = c .before .before .before .before .before .before .before in sym (ask-missing (now (s .args .file)) (s .pre) checkState cost (s .args .action) (now (s .args .state)) (c .if1 .taken))
-
-add-last : tie.Need-add-last
-add-last c = omega (arith, starts _ (c .before .before .before .before .before .before .before .pre) .fits)
-
-part-check-state-end : tie.Need-part-check-state-end
-part-check-state-end c = omega (arith, starts _ (c .before .before .before .before .before .before .before .pre) .fits)
-
-mul-walk-at : tie.Need-mul-walk-at
-mul-walk-at c = omega (arith, c .before .before .before .before .before .if1 .left, starts _ (c .before .before .before .before .before .before .before .before .before .before .before .before .pre) .actions)
-
-shared-slice-read-walk-at : tie.Need-shared-slice-read-walk-at
-shared-slice-read-walk-at c = omega (arith, c .before .before .before .before .before .before .if1 .left, starts _ (c .before .before .before .before .before .before .before .before .before .before .before .before .before .pre) .actions, c .before .before .before .before .before .before .before .before .before .before .before .before .before .pre .starts-long)
+returns c = let s = c .before .before .before .before in sym (ask-missing (now (s .args .file)) (s .pre) checkState cost (s .args .action) (now (s .args .state)) (c .if1 .taken))
 
 returns-2 : tie.Need-returns-2
 returns-2 c =
-    let s = c .before .before .before .before .before .before .before .before .before .before .before .before in
+    let s = c .before .before .before .before .before .before .before .before .before in
     sym (ask-state (now (s .args .file)) (s .pre) checkState cost (s .args .action) (now (s .args .state)) (c .before .before .before .before .before .if1 .left) (same s) (sym (c .before .before .before .check-state .ensures) ∙ ap checkedAnswer (c .before .why .given .1)))
 
 returns-3 : tie.Need-returns-3
 returns-3 c =
-    let s = c .before .before .before .before .before .before .before .before .before .before .before .before .before .before .before in
+    let s = c .before .before .before .before .before .before .before .before .before .before .before .before in
     let f = now (s .args .file) in
-    let own-walk = ap (λ (ns : List ℕ). walkAt f (getD (take 96 (now (s .args .row))) (s .args .action) 0) ns (now (s .args .state)) .cost) (own-nodes (take 128 (drop 128 (now (s .args .row)))) (getD (take 32 (drop 96 (now (s .args .row)))) (s .args .action) 0) (c .before .before .before .offset-within .ensures)) in
+    let row = now (s .args .row) in
+    let own-walk = ap₂ (λ (at : ℕ) (own : List ℕ). walkAt f at own (now (s .args .state)) .cost) (c .before .before .offset-at .ensures) (own-nodes row (ownFrom row (s .args .action)) (c .before .before .before .own-nodes .ensures)) in
     sym (ask-is f (s .pre) checkState cost (s .args .action) (now (s .args .state)) (c .before .before .before .before .before .before .before .before .if1 .left) (same s)
     (sym (c .before .before .before .before .before .before .check-state .ensures) ∙ ap checkedAnswer (c .before .before .before .before .enum-told .given .1))
     (λ x h ok. c .walk-at .ensures .0 ∙ own-walk ∙ walk-cost f (s .pre) (s .args .action) (now (s .args .state)) h ok))
@@ -53,27 +41,19 @@ pub cost-in-spec : {M : Type 1} → statement M
 cost-in-spec =
     tie.close
     (tie.spec
-    (λ c. sym (c .before .before .before .before .pre .starts-long))
-    (λ c. search needs)
-    (λ c. search needs)
-    (λ c. omega (arith, row-long _ (now (c .before .before .before .before .args .row)) (c .before .before .before .before .pre)))
-    (λ c. search needs)
-    (λ c. search needs)
-    (λ c. omega (arith, row-long _ (now (c .before .before .before .before .before .args .row)) (c .before .before .before .before .before .pre)))
     returns
-    add-last
+    (λ c. omega (arith, starts _ (c .before .before .before .before .pre) .fits))
     (λ c. search needs)
     (λ c. search needs)
-    part-check-state-end
+    (λ c. omega (arith, starts _ (c .before .before .before .before .pre) .fits))
     (λ c κs. search needs)
     (λ c. search needs)
     (λ c. search needs)
     (λ c κs. search needs)
-    mul-walk-at
-    shared-slice-read-walk-at
+    (λ c κs. search needs)
     (λ c. search needs)
-    (λ c. search needs)
-    (λ c. search needs)
+    (λ c. omega (arith, c .before .own-nodes .ensures))
+    (λ c. omega (arith, c .before .own-nodes .ensures))
     (λ c. search needs)
     (λ c κs. search needs)
     returns-2

@@ -1,5 +1,5 @@
 -- `task::run_in` meets its contract: the state is a copy of the initial values. Assumes nothing.
-use Prim.Native.Nat.{ℕ, _+_, _*_, _-_, _≤_}
+use Prim.Native.Nat.{ℕ, _+_, _*_, _-_}
 use mathlib.Core.Path.{_≡_, sym, ap, ap₂, _∙_}
 use mathlib.Core.List.{List, _++_}
 use denote.Ref.{now}
@@ -7,9 +7,10 @@ use lib.ListN.{length, take, drop, replicate, length-take, length-drop, length-a
 use lib.Seq.{length-take-le, take-at}
 use Rattle.facts.specs.WriteLaws.{copied}
 use Rattle.facts.specs.Partial.{partialAt}
+use Rattle.taskfile.specs.TaskFile.{runTask}
 use Rattle.taskfile.specs.WalkInPlace.{moveAt, runList}
+use Rattle.taskfile.specs.Answers.{sumAnswer}
 use Rattle.taskfile.specs.AnswerLaws.{Starts, starts, run-is}
-use Rattle.taskfile.specs.TaskIndexLaws.{row-long}
 use borrow.Author.Needs.{needs}
 use native.Mathlib.Omega.{arith}
 use Rattle.task.proofs.run_in.Statement.{statement}
@@ -31,61 +32,54 @@ init-is c =
     let n : 1 + v + v - (1 + v) ≡ v = omega arith in
     ap (λ (k : ℕ). take k (drop (1 + v) (now (c .args .file)))) n
 
-few : (c : tie.Start) → c .args .actions ≤ length (take 96 (now (c .args .row)))
-few c = omega (arith, begins c .actions, c .pre .starts-long)
-
 -- a state of zeros
 abbrev zeros : List ℕ
 zeros = replicate 24 0
 
-same : (c : tie.After-copy) → c .copy .last .1 .0 ≡ init (c .before .before .before .before .before .before .before .before .before)
-same c = let s = c .before .before .before .before .before .before .before .before .before in copied (init s) (take (s .args .variables) zeros) (init-long s ∙ sym (length-take-le (s .args .variables) zeros (begins s .variables))) (c .copy .ensures .1)
+same : (c : tie.After-copy) → c .copy .last .1 .0 ≡ init (c .before .before .before .before .before .before)
+same c = let s = c .before .before .before .before .before .before in copied (init s) (take (s .args .variables) zeros) (init-long s ∙ sym (length-take-le (s .args .variables) zeros (begins s .variables))) (c .copy .ensures .1)
 
-state-is : (c : tie.After-copy) → take (c .before .before .before .before .before .before .before .before .before .args .variables) (c .copy .last .1 .0 ++ drop (c .before .before .before .before .before .before .before .before .before .args .variables) zeros) ≡ init (c .before .before .before .before .before .before .before .before .before)
-state-is c = let s = c .before .before .before .before .before .before .before .before .before in take-at (c .copy .last .1 .0) (drop (s .args .variables) zeros) (s .args .variables) (ap length (same c) ∙ init-long s) ∙ same c
+state-is : (c : tie.After-copy) → take (c .before .before .before .before .before .before .args .variables) (c .copy .last .1 .0 ++ drop (c .before .before .before .before .before .before .args .variables) zeros) ≡ init (c .before .before .before .before .before .before)
+state-is c = let s = c .before .before .before .before .before .before in take-at (c .copy .last .1 .0) (drop (s .args .variables) zeros) (s .args .variables) (ap length (same c) ∙ init-long s) ∙ same c
 
 slice-aggregate-copy : tie.Need-slice-aggregate-copy
-slice-aggregate-copy c = let s = c .before .before .before .before .before .before .before .before in sym (length-take-le (s .args .variables) zeros (begins s .variables))
+slice-aggregate-copy c = let s = c .before .before .before .before .before in sym (length-take-le (s .args .variables) zeros (begins s .variables))
 
 copy-requires : tie.Need-copy-requires
-copy-requires c κs = let s = c .before .before .before .before .before .before .before .before in omega (arith, init-long s, length-take-le (s .args .variables) zeros (begins s .variables))
+copy-requires c κs = let s = c .before .before .before .before .before in omega (arith, init-long s, length-take-le (s .args .variables) zeros (begins s .variables))
 
 array-borrow-prefix-state-2 : tie.Need-array-borrow-prefix-state-2
-array-borrow-prefix-state-2 c = let s = c .before .before .before .before .before .before .before .before .before .before .before in omega (arith, length-append (c .before .before .copy .last .1 .0) (drop (s .args .variables) zeros), ap length (same (c .before .before)), init-long s)
+array-borrow-prefix-state-2 c = let s = c .before .before .before .before .before .before .before in omega (arith, length-append (c .before .copy .last .1 .0) (drop (s .args .variables) zeros), ap length (same (c .before)), init-long s)
 
-slice-aggregate-run-list-2 : tie.Need-slice-aggregate-run-list-2
-slice-aggregate-run-list-2 c = sym (ap length (state-is (c .before .before .before)) ∙ init-long (c .before .before .before .before .before .before .before .before .before .before .before .before))
+slice-aggregate-run-list : tie.Need-slice-aggregate-run-list
+slice-aggregate-run-list c = sym (ap length (state-is (c .before .before)) ∙ init-long (c .before .before .before .before .before .before .before .before))
 
-returns : tie.Need-returns
-returns c =
-    let s = c .before .before .before .before .before .before .before .before .before .before .before .before .before .before in
+-- the sum is that of the task
+ran : (c : tie.After-run-list) → sumAnswer (c .run-list .result) ≡ runTask (now (c .before .before .before .before .before .before .before .before .before .args .file)) (now (c .before .before .before .before .before .before .before .before .before .args .list))
+ran c =
+    let s = c .before .before .before .before .before .before .before .before .before in
     let a = s .args in
     let goal : 1 + a .variables + a .variables ≡ 1 + 2 * a .variables = omega arith in
-    c .before .run-list .ensures .0
-    ∙ ap₂ (λ (at : ℕ) (state : List ℕ). runList (length (take (a .actions) (take 96 (now (a .row))))) (moveAt (now (a .file)) (take (a .actions) (take 96 (now (a .row)))) (take 32 (drop 96 (now (a .row)))) (take 128 (drop 128 (now (a .row))))) (partialAt (now (a .file)) at) (now (a .list)) state) goal (state-is (c .before .before .before .before .before) ∙ init-is s)
+    c .run-list .ensures .0
+    ∙ ap₂ (λ (at : ℕ) (state : List ℕ). runList (a .actions) (moveAt (now (a .file)) (now (a .row))) (partialAt (now (a .file)) at) (now (a .list)) state) goal (state-is (c .before .before .before) ∙ init-is s)
     ∙ sym (run-is (now (a .file)) (s .pre) (now (a .list)))
 
 pub run-in-spec : {M : Type 1} → statement M
 run-in-spec =
     tie.close
     (tie.spec
-    (λ c. sym (c .before .before .before .before .pre .starts-long))
+    (λ c. omega (arith, begins (c .before .before .before) .fits))
+    (λ c. omega (arith, begins (c .before .before .before) .fits))
     (λ c. search needs)
     (λ c. search needs)
-    (λ c. omega (arith, row-long _ (now (c .before .before .before .before .args .row)) (c .before .before .before .before .pre)))
-    (λ c. search needs)
-    (λ c. search needs)
-    (λ c. omega (arith, row-long _ (now (c .before .before .before .before .before .args .row)) (c .before .before .before .before .before .pre)))
-    (λ c. omega (arith, begins (c .before .before .before .before .before .before) .fits))
-    (λ c. omega (arith, begins (c .before .before .before .before .before .before) .fits))
-    (λ c. search needs)
-    (λ c. search needs)
-    (λ c. omega (arith, begins (c .before .before .before .before .before .before) .fits))
-    (λ c. begins (c .before .before .before .before .before .before .before) .variables)
+    (λ c. omega (arith, begins (c .before .before .before) .fits))
+    (λ c. begins (c .before .before .before .before) .variables)
     slice-aggregate-copy
     copy-requires
-    (λ c. sym (length-take-le _ _ (few (c .before .before .before .before .before .before .before .before .before .before .before))))
     array-borrow-prefix-state-2
-    slice-aggregate-run-list-2
+    slice-aggregate-run-list
     (λ c κs. search needs)
-    returns)
+    (λ c. search needs)
+    (λ c. search needs)
+    (λ c. sym (ap sumAnswer (c .before .why .given .1)) ∙ ran (c .before .before .before .before))
+    (λ c. sym (ap sumAnswer (c .before .sum .given .1)) ∙ ran (c .before .before .before .before)))
