@@ -6,6 +6,5 @@ pub mod StartLaws
 pub mod SameSumLaws
 -- Demand 3 over files, and plans carried across and back.
 pub mod SameSum
--- What the code is promised by, in place.
--- Laws of the code.
+-- Laws of what a buffer makes of an answer.
 pub mod AnswerLaws

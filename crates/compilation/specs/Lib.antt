@@ -1,6 +1,7 @@
 -- Definitions.
 pub mod Extend
 pub mod Compile
+pub mod CompileFile
 -- The document's example, computed.
 pub mod Examples
 -- Laws.
@@ -9,5 +10,4 @@ pub mod AskLaws
 pub mod StepLaws
 pub mod CompiledLaws
 pub mod CompiledLengthLaws
-pub mod CompileFile
 pub mod ProgramLaws

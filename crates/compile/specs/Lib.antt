@@ -1,3 +1,2 @@
--- Definitions.
 -- Laws.
 pub mod TaskInPlaceLaws

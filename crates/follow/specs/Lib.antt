@@ -1,2 +1,4 @@
+-- Definitions.
 pub mod Follow
+-- Laws.
 pub mod FollowLaws

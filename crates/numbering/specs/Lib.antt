@@ -1,4 +1,6 @@
+-- Definitions: what the code is promised by, in place.
 pub mod InPlace
+-- Laws.
 pub mod NumberLaws
 pub mod ActionLaws
 pub mod ExpandLaws

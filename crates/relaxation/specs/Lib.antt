@@ -8,8 +8,12 @@ pub mod Estimate
 pub mod EstimatePass
 pub mod EstimateInPlace
 pub mod Sums
+-- The operations over files.
+pub mod RelaxedTask
+pub mod EstimateTask
 -- The document's cases, computed.
 pub mod Examples
+pub mod FileExamples
 -- Laws.
 pub mod LeastLaws
 pub mod PassLaws
@@ -22,8 +26,5 @@ pub mod LeastCostLaws
 pub mod EstimateRounds
 pub mod EstimateInPlaceLaws
 pub mod EstimateLaws
-pub mod RelaxedTask
-pub mod EstimateTask
-pub mod FileExamples
 pub mod RelaxedTaskLaws
 pub mod EstimateTaskLaws

@@ -1,2 +1,4 @@
+-- Definitions.
 pub mod InPlace
+-- Laws.
 pub mod PutLaws

@@ -1,3 +1,0 @@
--- Definitions.
--- The document's cases, computed.
--- Laws.
