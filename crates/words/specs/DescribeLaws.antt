@@ -11,10 +11,10 @@ use Rattle.facts.specs.ListLaws.{look}
 use Rattle.facts.specs.Partial.{partialAt}
 use Rattle.taskfile.specs.Task.{Action, Task}
 use Rattle.taskfile.specs.TaskFile.{readTask, checkTask, actionOf}
-use Rattle.taskfile.specs.Index.{Index, Ready}
-use Rattle.taskfile.specs.AnswerLaws.{there, starts, sizes-there, starts-count}
+use Rattle.taskfile.specs.Index.{Ready}
+use Rattle.taskfile.specs.AnswerLaws.{there, starts, sizes-there}
 use Rattle.taskfile.specs.PartsInPlace.{actionsIn}
-use Rattle.taskfile.specs.PartsInPlaceLaws.{at-some, action-here, located, actions-in-place}
+use Rattle.taskfile.specs.PartsInPlaceLaws.{at-some, action-here, actions-in-place}
 use Rattle.compilation.specs.Compile.{flat}
 use Rattle.text.specs.Append.{bytes, Adds}
 use Rattle.text.specs.AppendLaws.{adds-front, adds-end}
@@ -61,30 +61,22 @@ module _ (f : List ℕ) where
 
   -- ---- the task of an accepted file with this index
 
-  module _ {i : Index} (ready : Ready f i) where
+  module _ {n count : ℕ} {row : List ℕ} (ready : Ready f n count row) where
     abbrev t : Task
     t = there f ready .task
 
-    -- the offset of each action
-    abbrev begins : List ℕ
-    begins = take (i .actions) (i .starts)
-
-    -- There is one for each.
-    pub begins-long : i .actions ≡ length begins
-    begins-long = sym (starts-count f ready ∙ there f ready .actions)
-
     -- Where the head's parts stand, as code counts their bytes.
-    pub head-fits : 1 + i .variables + i .variables ≤ length f
+    pub head-fits : 1 + n + n ≤ length f
     head-fits = omega (arith, starts f ready .fits)
 
-    pub sizes-in : take (1 + i .variables - 1) (drop 1 f) ≡ t .sizes
-    sizes-in = let same : 1 + i .variables - 1 ≡ i .variables = omega arith in sizes-there f ready same
+    pub sizes-in : take (1 + n - 1) (drop 1 f) ≡ t .sizes
+    sizes-in = let same : 1 + n - 1 ≡ n = omega arith in sizes-there f ready same
 
-    pub init-in : take (1 + i .variables + i .variables - (1 + i .variables)) (drop (1 + i .variables) f) ≡ t .init
-    init-in = let same : 1 + i .variables + i .variables - (1 + i .variables) ≡ i .variables = omega arith in ap (λ (k : ℕ). take k (drop (1 + i .variables) f)) same ∙ starts f ready .init
+    pub init-in : take (1 + n + n - (1 + n)) (drop (1 + n) f) ≡ t .init
+    init-in = let same : 1 + n + n - (1 + n) ≡ n = omega arith in ap (λ (k : ℕ). take k (drop (1 + n) f)) same ∙ starts f ready .init
 
-    goal-in : partialAt f (1 + i .variables + i .variables) ≡ t .goal
-    goal-in = let same : 1 + i .variables + i .variables ≡ 1 + 2 * i .variables = omega arith in ap (partialAt f) same ∙ starts f ready .goal
+    goal-in : partialAt f (1 + n + n) ≡ t .goal
+    goal-in = let same : 1 + n + n ≡ 1 + 2 * n = omega arith in ap (partialAt f) same ∙ starts f ready .goal
 
     -- The whole task.
     pub shown-is : shown f ≡ accepted (taskText t)
@@ -92,16 +84,13 @@ module _ (f : List ℕ) where
     shown-is = rw (there f ready .reads)
 
     -- The texts of the actions in place are those of the task's.
-    pub actions-text : {X : Type 0} (text : ℕ → Action → List X) {sizes : List ℕ} → sizes ≡ t .sizes
-        → rowFrom (λ a. text a (actionFor f sizes begins (i .firsts) (i .nodes) a)) 0 (length begins) ≡ flat text 0 (t .actions)
-    actions-text text {sizes} e =
-        sym (actions-row f text sizes begins (i .firsts) (i .nodes) 0 (length begins))
-        ∙ ap (flat text 0) (ap (λ (ds : List ℕ). actionsIn f ds begins (i .firsts) (i .nodes) 0 (length begins)) e ∙ actions-in-place f ready)
+    pub actions-text : {X : Type 0} (text : ℕ → Action → List X) {sizes : List ℕ} → sizes ≡ t .sizes → rowFrom (λ a. text a (actionFor f sizes row a)) 0 count ≡ flat text 0 (t .actions)
+    actions-text text {sizes} e = sym (actions-row f text sizes row 0 count) ∙ ap (flat text 0) (ap (λ (ds : List ℕ). actionsIn f ds row 0 count) e ∙ actions-in-place f ready)
 
     -- What is written, one part after the other, is the task's text.
     pub task-text : {sizes init : List ℕ} → sizes ≡ t .sizes → init ≡ t .init
         → rowFrom (λ v. variableText v (getD sizes v 0) (getD init v 0)) 0 (length sizes)
-        ++ (bytes "goal:" ++ (partialText (length sizes) (partialAt f (1 + i .variables + i .variables)) ++ (bytes "\n" ++ rowFrom (λ a. actionText (length sizes) a (actionFor f sizes begins (i .firsts) (i .nodes) a)) 0 (length begins))))
+        ++ (bytes "goal:" ++ (partialText (length sizes) (partialAt f (1 + n + n)) ++ (bytes "\n" ++ rowFrom (λ a. actionText (length sizes) a (actionFor f sizes row a)) 0 count)))
         ≡ taskText t
     unfolding taskText
     task-text {sizes} {init} s h =
@@ -109,24 +98,27 @@ module _ (f : List ℕ) where
         rw (s, h) (sym (list-row (λ v size. variableText v size (getD (t .init) v 0)) (t .sizes) (t .sizes) 0 (λ k j l e. let same : j ≡ k = omega arith in rw same))) in
         rw (names, goal-in, actions-text (actionText (length sizes)) s, s)
 
+    -- the text of an action's diagram
+    abbrev diagram : ℕ → List ℕ
+    diagram a = dotAction a (actionFor f (take (1 + n - 1) (drop 1 f)) row a)
+
     -- All diagrams.
-    pub drawn-is : drawn f ≡ accepted (drawing f i 0 (i .actions))
+    pub drawn-is : drawn f ≡ accepted (drawing f n row 0 count)
     unfolding drawn drawing
     drawn-is =
-        let count : i .actions - 0 ≡ length begins = omega (arith, begins-long) in
-        rw (there f ready .reads) (ap accepted (sym (drawing-text 0 (t .actions) (ap (rowFrom (λ a. dotAction a (actionFor f (take (1 + i .variables - 1) (drop 1 f)) begins (i .firsts) (i .nodes) a)) 0) count ∙ actions-text dotAction sizes-in))))
+        let all : count - 0 ≡ count = omega arith in
+        rw (there f ready .reads) (ap accepted (sym (drawing-text 0 (t .actions) (ap (rowFrom diagram 0) all ∙ actions-text dotAction sizes-in))))
 
     module _ (a : ℕ) where
       -- There is no such action.
-      pub action-missing : i .actions ≤ a → drawnAction f a ≡ refused 11 0
+      pub action-missing : count ≤ a → drawnAction f a ≡ refused 11 0
       unfolding drawnAction actionOf
       action-missing l = rw (there f ready .reads, look-none (t .actions) a (omega (arith, there f ready .actions)), actionOf)
 
       -- The diagram of one action.
-      pub action-is : a < i .actions → drawnAction f a ≡ accepted (drawing f i a (a + 1))
+      pub action-is : a < count → drawnAction f a ≡ accepted (drawing f n row a (a + 1))
       unfolding drawnAction actionOf drawing
       action-is l =
           let x = at-some (t .actions) a (omega (arith, there f ready .actions)) in
-          let same : actionFor f (take (1 + i .variables - 1) (drop 1 f)) begins (i .firsts) (i .nodes) a ≡ x .0 = rw sizes-in (action-here f (located f ready .lies t (there f ready .reads) a (x .0) (x .1))) in
-          rw (there f ready .reads, look (x .1), actionOf)
-          (ap accepted (sym (drawing-text a (x .0 ∷ []) (row-one (λ a. dotAction a (actionFor f (take (1 + i .variables - 1) (drop 1 f)) begins (i .firsts) (i .nodes) a)) a ∙ ap (λ (y : Action). dotAction a y ++ []) same))))
+          let same : actionFor f (take (1 + n - 1) (drop 1 f)) row a ≡ x .0 = rw sizes-in (action-here f (ready .located .lies t (there f ready .reads) a (x .0) (x .1))) in
+          rw (there f ready .reads, look (x .1), actionOf) (ap accepted (sym (drawing-text a (x .0 ∷ []) (row-one diagram a ∙ ap (λ (y : Action). dotAction a y ++ []) same))))

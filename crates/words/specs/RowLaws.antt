@@ -66,11 +66,9 @@ module _ (f : List ℕ) where
       ap₂ (λ (k : ℕ) (rest : List X). text k (nodeFor f sizes offsets j) ++ rest) e (nodes-row text sizes offsets (suc i) (suc j) count (omega arith))
 
   -- Actions of these numbers.
-  pub actions-row : {X : Type 0} (text : ℕ → Action → List X) (sizes starts firsts nodes : List ℕ) (a count : ℕ)
-      → flat text a (actionsIn f sizes starts firsts nodes a count) ≡ rowFrom (λ a. text a (actionFor f sizes starts firsts nodes a)) a count
-  actions-row text sizes starts firsts nodes a zero = refl
-  actions-row {X} text sizes starts firsts nodes a (suc count) =
-      ap (λ (rest : List X). text a (actionFor f sizes starts firsts nodes a) ++ rest) (actions-row text sizes starts firsts nodes (suc a) count)
+  pub actions-row : {X : Type 0} (text : ℕ → Action → List X) (sizes row : List ℕ) (a count : ℕ) → flat text a (actionsIn f sizes row a count) ≡ rowFrom (λ a. text a (actionFor f sizes row a)) a count
+  actions-row text sizes row a zero = refl
+  actions-row {X} text sizes row a (suc count) = ap (λ (rest : List X). text a (actionFor f sizes row a) ++ rest) (actions-row text sizes row (suc a) count)
 
 -- The elements of a list.
 pub list-row : (text : ℕ → ℕ → List ℕ) (xs all : List ℕ) (i : ℕ) → ((k j : ℕ) → k < length xs → j ≡ i + k → getD xs k 0 ≡ getD all j 0) → flat text i xs ≡ rowFrom (λ v. text v (getD all v 0)) i (length xs)

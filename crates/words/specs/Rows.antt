@@ -4,7 +4,7 @@ use mathlib.Core.List.{List, [], _++_}
 use lib.ListN.{getD, take, drop}
 use Rattle.taskfile.specs.Task.{Edge, Node, Action}
 use Rattle.taskfile.specs.TaskFile.{edgeBytes}
-use Rattle.taskfile.specs.Index.{Index}
+use Rattle.taskfile.specs.Row.{ownFrom}
 use Rattle.taskfile.specs.PartsInPlace.{edgeIn, nodeIn, actionIn}
 use Rattle.text.specs.Append.{bytes, Adds}
 use Rattle.words.specs.Dot.{dotAction}
@@ -28,11 +28,10 @@ module _ (f : List ℕ) where
   abbrev pub nodeFor : List ℕ → List ℕ → ℕ → Node
   nodeFor sizes offsets j = nodeIn f sizes (getD offsets j 0)
 
-  -- action number a: `starts` has the offset of each, `firsts` the index of its first node in `nodes`
-  abbrev pub actionFor : List ℕ → List ℕ → List ℕ → List ℕ → ℕ → Action
-  actionFor sizes starts firsts nodes a = actionIn f sizes (getD starts a 0) (drop (getD firsts a 0) nodes)
+  -- action number a, by the row of the index
+  abbrev pub actionFor : List ℕ → List ℕ → ℕ → Action
+  actionFor sizes row a = actionIn f sizes (getD row a 0) (drop (ownFrom row a) row)
 
-  -- the cost diagrams of the actions from one number up to another, in one drawing
-  unfoldable pub drawing : Index → ℕ → ℕ → List ℕ
-  drawing i from end =
-      bytes "digraph costs {\n" ++ (rowFrom (λ a. dotAction a (actionFor (take (1 + i .variables - 1) (drop 1 f)) (take (i .actions) (i .starts)) (i .firsts) (i .nodes) a)) from (end - from) ++ bytes "}\n")
+  -- the cost diagrams of the actions from one number up to another, in one drawing, for so many variables
+  unfoldable pub drawing : ℕ → List ℕ → ℕ → ℕ → List ℕ
+  drawing n row from end = bytes "digraph costs {\n" ++ (rowFrom (λ a. dotAction a (actionFor (take (1 + n - 1) (drop 1 f)) row a)) from (end - from) ++ bytes "}\n")
