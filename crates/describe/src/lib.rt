@@ -7,7 +7,7 @@ use text::append::append;
 use words::Described;
 ghost use mathlib.Core.Path.{_≡_};
 ghost use lib.ListN.{length};
-ghost use Rattle.taskfile.specs.Index.{indexOf, Ready};
+ghost use Rattle.taskfile.specs.Index.{Ready};
 ghost use Rattle.words.specs.DescribeFile.{shown, lengthIn, textIn};
 ghost use Rattle.words.specs.Answers.{describedAnswer};
 
@@ -31,13 +31,10 @@ fn show_in(
     row: &[usize],
     out: &mut [u8],
 ) -> Described
-    requires { ⌜ Ready (now file) (indexOf variables actions (now row)) ⌝ }
+    requires { ⌜ Ready (now file) variables actions (now row) ⌝ }
     ensures { λ r. ⌜ describedAnswer r ≡ lengthIn (length (now (out .entry))) (shown (now (file .entry))) ⌝ }
     ensures { λ r. ⌜ now (out .exit) ≡ textIn (now (out .entry)) (shown (now (file .entry))) ⌝ }
 {
-    let starts = &row[..Task::FIRSTS];
-    let firsts = &row[Task::FIRSTS..Task::NODES];
-    let nodes = &row[Task::NODES..Task::ROW];
     let last = 1 + variables;
     let goal = last + variables;
     let sizes = &file[1..last];
@@ -45,6 +42,6 @@ fn show_in(
     let label = append(out, names, b"goal:");
     let facts = words::words::put_partial(out, label, file, goal, sizes);
     let line = append(out, facts, b"\n");
-    let end = task::put_actions(out, line, file, sizes, &starts[..actions], firsts, nodes);
+    let end = task::put_actions(out, line, file, sizes, actions, row);
     Described::Length(end)
 }

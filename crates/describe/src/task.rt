@@ -1,11 +1,11 @@
 // A task in words, from the bytes of an accepted file.
 use facts::number::byte_at;
 use facts::number::offset_at;
-use facts::number::offset_within;
 use text::append::append;
 use walk::diagram_at;
 use walk::edge_for;
 use walk::effect_at;
+use walk::own_nodes;
 use words::words::put_numbered;
 use words::words::put_partial;
 ghost use Prim.Native.Nat.{_+_};
@@ -168,23 +168,22 @@ pub fn put_action(
     )
 }
 
-// All actions: `starts` has the offset of each, `firsts` the index of its first node in `nodes`.
+// All actions, by the row of the index.
 pub fn put_actions(
     out: &mut [u8],
     at: usize,
     file: &[u8],
     sizes: &[u8],
-    starts: &[usize],
-    firsts: &[usize],
-    nodes: &[usize],
+    count: usize,
+    row: &[usize],
 ) -> usize
-    ensures { λ r. ⌜ Adds (rowFrom (λ a. actionText (length (now (sizes .entry))) a (actionFor (now (file .entry)) (now (sizes .entry)) (now (starts .entry)) (now (firsts .entry)) (now (nodes .entry)) a)) 0 (length (now (starts .entry)))) (now (out .entry)) (now (out .exit)) at r ⌝ }
+    ensures { λ r. ⌜ Adds (rowFrom (λ a. actionText (length (now (sizes .entry))) a (actionFor (now (file .entry)) (now (sizes .entry)) (now (row .entry)) a)) 0 count) (now (out .entry)) (now (out .exit)) at r ⌝ }
 {
     let mut end = at;
     let mut a: usize = 0;
-    while a < starts.len() {
-        let first = offset_within(firsts, a, nodes.len());
-        end = put_action(out, end, file, sizes, starts[a], &nodes[first..], a);
+    while a < count {
+        let own = own_nodes(row, a);
+        end = put_action(out, end, file, sizes, offset_at(row, a), &row[own..], a);
         a += 1;
     }
     end

@@ -1,13 +1,15 @@
 -- Laws of rows of texts.
-use Prim.Native.Nat.{ℕ, zero, suc, _+_, _*_, _-_, _≤_, _<_}
+use Prim.Native.Nat.{ℕ, zero, suc, _+_, _*_, _-_, _≤_, _<_, min}
 use mathlib.Core.Path.{_≡_, refl, sym, ap, ap₂, subst, _∙_}
 use mathlib.Core.List.{List, [], _∷_, _++_, append-assoc}
 use native.Mathlib.Omega.{arith}
 use native.Mathlib.Numerals.{add-one}
-use lib.ListN.{length, getD}
+use lib.ListN.{length, getD, take, drop}
 use Rattle.taskfile.specs.Task.{Edge, Node, Action}
 use Rattle.taskfile.specs.TaskFile.{edgeBytes}
-use Rattle.taskfile.specs.PartsInPlace.{edgeIn, edgesIn, nodeIn, nodesIn, actionsIn}
+use Rattle.taskfile.specs.Row.{ownFrom}
+use Rattle.taskfile.specs.PartsInPlace.{edgeIn, edgesIn, nodeIn, nodesIn, actionIn, actionsIn}
+use Rattle.taskfile.specs.MoveInPlaceLaws.{own-nodes}
 use Rattle.compilation.specs.Compile.{flat}
 use Rattle.text.specs.Text.{decimal}
 use Rattle.text.specs.Append.{Adds}
@@ -64,6 +66,10 @@ module _ (f : List ℕ) where
   nodes-row text sizes offsets i j zero e = refl
   nodes-row {X} text sizes offsets i j (suc count) e =
       ap₂ (λ (k : ℕ) (rest : List X). text k (nodeFor f sizes offsets j) ++ rest) e (nodes-row text sizes offsets (suc i) (suc j) count (omega arith))
+
+  -- An action whose offset and own nodes are looked up in the row.
+  pub action-as : (sizes row : List ℕ) (a : ℕ) {at k : ℕ} → at ≡ getD row a 0 → k ≡ min (ownFrom row a) (length row) → actionIn f sizes at (take (length row - k) (drop k row)) ≡ actionFor f sizes row a
+  action-as sizes row a h e = ap₂ (actionIn f sizes) h (own-nodes row (ownFrom row a) e)
 
   -- Actions of these numbers.
   pub actions-row : {X : Type 0} (text : ℕ → Action → List X) (sizes row : List ℕ) (a count : ℕ) → flat text a (actionsIn f sizes row a count) ≡ rowFrom (λ a. text a (actionFor f sizes row a)) a count
