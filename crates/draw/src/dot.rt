@@ -1,80 +1,53 @@
 // Cost diagrams for Graphviz, from the bytes of an accepted file.
 use facts::number::byte_at;
 use facts::number::offset_at;
-use facts::number::offset_within;
-use taskfile::Task;
 use text::append::append;
 use walk::diagram_at;
 use walk::edge_for;
+use walk::own_nodes;
 use words::words::put_numbered;
-ghost use Prim.Native.Nat.{_+_, _-_};
-ghost use Rattle.taskfile.specs.Index.{indexOf, Ready};
+ghost use Prim.Native.Nat.{_+_, _-_, _≤_};
+ghost use lib.ListN.{length};
 ghost use Rattle.taskfile.specs.PartsInPlace.{nodeIn, actionIn};
 ghost use Rattle.text.specs.Append.{Adds};
 ghost use Rattle.words.specs.Dot.{nodeName, dotEdge, dotNode, dotEntry, dotAction};
 ghost use Rattle.words.specs.Rows.{rowFrom, AddsTwo, edgeFor, nodeFor, actionFor, drawing};
 
-// All actions from number `from` up to `end`, in one drawing, of an accepted file by its index.
+// All actions from number `from` up to `end`, in one drawing, by the row of the index.
 pub fn put_drawing(
     out: &mut [u8],
     file: &[u8],
     variables: usize,
-    actions: usize,
     row: &[usize],
     from: usize,
     end: usize,
 ) -> usize
-    requires { ⌜ Ready (now file) (indexOf variables actions (now row)) ⌝ }
-    ensures { λ r. ⌜ Adds (drawing (now (file .entry)) (indexOf variables actions (now (row .entry))) from end) (now (out .entry)) (now (out .exit)) 0 r ⌝ }
+    requires { ⌜ 1 + variables ≤ length (now file) ⌝ }
+    ensures { λ r. ⌜ Adds (drawing (now (file .entry)) variables (now (row .entry)) from end) (now (out .entry)) (now (out .exit)) 0 r ⌝ }
 {
-    let starts = &row[..Task::FIRSTS];
-    let firsts = &row[Task::FIRSTS..Task::NODES];
-    let nodes = &row[Task::NODES..Task::ROW];
     let last = 1 + variables;
-    let sizes = &file[1..last];
-    let action_at = &starts[..actions];
     let opened = append(out, 0, b"digraph costs {\n");
-    let drawn = put_diagrams(
-        out,
-        opened,
-        file,
-        sizes,
-        action_at,
-        firsts,
-        nodes,
-        from,
-        end,
-    );
+    let drawn = put_diagrams(out, opened, file, &file[1..last], row, from, end);
     append(out, drawn, b"}\n")
 }
 
-// The same, without what opens and closes the drawing: `starts` has the offset of each action, `firsts` the index of its first node in `nodes`.
+// The same, without what opens and closes the drawing.
 fn put_diagrams(
     out: &mut [u8],
     at: usize,
     file: &[u8],
     sizes: &[u8],
-    starts: &[usize],
-    firsts: &[usize],
-    nodes: &[usize],
+    row: &[usize],
     from: usize,
     end: usize,
 ) -> usize
-    ensures { λ r. ⌜ Adds (rowFrom (λ a. dotAction a (actionFor (now (file .entry)) (now (sizes .entry)) (now (starts .entry)) (now (firsts .entry)) (now (nodes .entry)) a)) from (end - from)) (now (out .entry)) (now (out .exit)) at r ⌝ }
+    ensures { λ r. ⌜ Adds (rowFrom (λ a. dotAction a (actionFor (now (file .entry)) (now (sizes .entry)) (now (row .entry)) a)) from (end - from)) (now (out .entry)) (now (out .exit)) at r ⌝ }
 {
     let mut past = at;
     let mut a = from;
     while a < end {
-        let first = offset_within(firsts, a, nodes.len());
-        past = put_diagram(
-            out,
-            past,
-            file,
-            sizes,
-            offset_at(starts, a),
-            &nodes[first..],
-            a,
-        );
+        let own = own_nodes(row, a);
+        past = put_diagram(out, past, file, sizes, offset_at(row, a), &row[own..], a);
         a += 1;
     }
     past

@@ -19,7 +19,7 @@ pub fn draw(file: &[u8], out: &mut [u8]) -> Described
     match index::index_in(file, &mut row) {
         Counted::Refused(why) => Described::Refused(why),
         Counted::Actions(variables, actions) => {
-            let end = dot::put_drawing(out, file, variables, actions, &row, 0, actions);
+            let end = dot::put_drawing(out, file, variables, &row, 0, actions);
             Described::Length(end)
         }
     }
@@ -37,7 +37,7 @@ pub fn draw_action(file: &[u8], action: usize, out: &mut [u8]) -> Described
             if actions <= action {
                 return Described::Refused(Refusal::Missing(0));
             }
-            let end = dot::put_drawing(out, file, variables, actions, &row, action, action + 1);
+            let end = dot::put_drawing(out, file, variables, &row, action, action + 1);
             Described::Length(end)
         }
     }

@@ -3,7 +3,7 @@ use mathlib.Core.Path.{sym, ap, _∙_}
 use denote.Ref.{now}
 use Rattle.taskfile.specs.Answers.{countedAnswer}
 use Rattle.taskfile.specs.TaskIndexLaws.{index-ready, index-refused}
-use Rattle.words.specs.DescribeLaws.{drawn-refused, drawn-is, refused-in, written-in}
+use Rattle.words.specs.DescribeLaws.{head-fits, drawn-refused, drawn-is, refused-in, written-in}
 use borrow.Author.Needs.{needs}
 use native.Mathlib.Omega.{arith}
 use Rattle.draw.proofs.draw.Statement.{statement}
@@ -12,7 +12,7 @@ use Rattle.draw.proofs.draw.Tie as tie
 put-drawing-requires : tie.Need-put-drawing-requires
 put-drawing-requires c κs =
     let i = c .before .before .before .before .before .before .index-in .ensures in
-    index-ready _ (i .0) (i .1) (ap countedAnswer (c .before .before .before .variables .given .1)) (omega (arith, c .before .before .before .before .before .row2 .given))
+    omega (arith, head-fits _ (index-ready _ (i .0) (i .1) (ap countedAnswer (c .before .before .before .variables .given .1)) (omega (arith, c .before .before .before .before .before .row2 .given))))
 
 returns : tie.Need-returns
 returns c =
