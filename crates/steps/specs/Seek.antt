@@ -1,7 +1,6 @@
 -- Steps found by number, one part of the task after the other.
 use Prim.Native.Nat.{ℕ, zero, suc}
 use mathlib.Core.List.{List, [], _∷_}
-use lib.ListN.{length}
 use Rattle.words.specs.Rows.{rowFrom, actionFor}
 use Rattle.steps.specs.declared.find.Name.{Name}
 use Rattle.steps.specs.declared.find.Name.the-variants.{Start, Node, End}
@@ -29,6 +28,6 @@ abbrev pub soughtAnswer : Sought → Place
 soughtAnswer (Found name cost) = found (record { name = nameOf name; cost = cost })
 soughtAnswer (Past k) = past k
 
--- the steps of the actions in place: `starts` has the offset of each, `firsts` the index of its first node in `nodes`
-unfoldable pub namesIn : List ℕ → List ℕ → List ℕ → List ℕ → List ℕ → List Named
-namesIn f sizes starts firsts nodes = rowFrom (λ a. actionNames a (actionFor f sizes starts firsts nodes a)) 0 (length starts)
+-- the steps of the first `count` actions in place, by the row of the index
+unfoldable pub namesIn : List ℕ → List ℕ → ℕ → List ℕ → List Named
+namesIn f sizes count row = rowFrom (λ a. actionNames a (actionFor f sizes row a)) 0 count

@@ -5,7 +5,7 @@ use mathlib.Core.Option.{none, some}
 use mathlib.Core.List.{List, [], _∷_, _++_}
 use native.Mathlib.Omega.{arith}
 use native.Mathlib.Numerals.{add-one}
-use lib.ListN.{length, getD, getElem?}
+use lib.ListN.{getD, getElem?}
 use Rattle.facts.specs.Fields.{wordAt}
 use Rattle.taskfile.specs.Task.{Edge}
 use Rattle.taskfile.specs.TaskFile.{edgeBytes}
@@ -156,12 +156,12 @@ module _ (f sizes : List ℕ) (at : ℕ) (offsets : List ℕ) (a k : ℕ) where
 
 -- ---- the steps of all actions
 
-module _ (f sizes starts firsts nodes : List ℕ) where
+module _ (f sizes row : List ℕ) where
   -- the steps of action a
   abbrev pub partOf : ℕ → List Named
-  partOf a = actionNames a (actionFor f sizes starts firsts nodes a)
+  partOf a = actionNames a (actionFor f sizes row a)
 
   -- At first those of all are left.
-  pub names-start : (k : ℕ) → Seeking partOf (seek (namesIn f sizes starts firsts nodes) k) 0 (length starts) k
+  pub names-start : (count k : ℕ) → Seeking partOf (seek (namesIn f sizes count row) k) 0 count k
   unfolding namesIn
-  names-start k = seeking-start partOf (length starts) k
+  names-start count k = seeking-start partOf count k

@@ -4,7 +4,7 @@ use mathlib.Core.Path.{_≡_, refl, sym, ap, ap₂, _∙_}
 use mathlib.Core.Option.{Option, none, some}
 use mathlib.Core.List.{List, [], _∷_, _++_}
 use native.Mathlib.Numerals.{add-one}
-use lib.ListN.{length, getD, take, drop, drop-of-length-le}
+use lib.ListN.{length, getD, drop, drop-of-length-le}
 use lib.Seq.{drop-cons}
 use borrow.Author.Tests.{le-leb, lt-leb}
 use Rattle.facts.specs.Read.{Read, accepted, refused, _>>=_}
@@ -12,7 +12,7 @@ use Rattle.facts.specs.ReadLaws.{not-made}
 use Rattle.facts.specs.Run.{atMost}
 use Rattle.taskfile.specs.Task.{Task}
 use Rattle.taskfile.specs.TaskFile.{readTask, checkTask}
-use Rattle.taskfile.specs.Index.{Index, Ready}
+use Rattle.taskfile.specs.Index.{Ready}
 use Rattle.taskfile.specs.AnswerLaws.{there}
 use Rattle.text.specs.Append.{Adds}
 use Rattle.text.specs.AppendLaws.{Adding, adding-start, adding-more, adding-end}
@@ -107,12 +107,12 @@ module _ (f list : List ℕ) where
   named-refused h = rw (not-made (λ (t : Task). tt) (readTask f) h)
 
   -- the task of an accepted file with this index
-  module _ {i : Index} (ready : Ready f i) where
+  module _ {n count : ℕ} {row : List ℕ} (ready : Ready f n count row) where
     abbrev t : Task
     t = there f ready .task
 
     -- The steps in place are the task's.
-    pub names-are : {sizes : List ℕ} → sizes ≡ t .sizes → namesIn f sizes (take (i .actions) (i .starts)) (i .firsts) (i .nodes) ≡ namesOf t
+    pub names-are : {sizes : List ℕ} → sizes ≡ t .sizes → namesIn f sizes count row ≡ namesOf t
     unfolding namesIn namesOf
     names-are e = actions-text f ready actionNames e
 

@@ -1,9 +1,9 @@
 // Steps found by number: an action has its start, an edge for each value of each node's variable, and its end.
 use facts::number::byte_at;
 use facts::number::offset_at;
-use facts::number::offset_within;
 use walk::diagram_at;
 use walk::edge_for;
+use walk::own_nodes;
 ghost use mathlib.Core.Path.{_≡_};
 ghost use Prim.Native.Nat.{_+_};
 ghost use Rattle.taskfile.specs.PartsInPlace.{nodeIn, actionIn};
@@ -24,22 +24,15 @@ pub enum Sought {
     Past(usize),
 }
 
-// Step number k of all actions: `starts` has the offset of each, `firsts` the index of its first node in `nodes`.
-pub fn find_step(
-    file: &[u8],
-    sizes: &[u8],
-    starts: &[usize],
-    firsts: &[usize],
-    nodes: &[usize],
-    k: usize,
-) -> Sought
-    ensures { λ r. ⌜ soughtAnswer r ≡ seek (namesIn (now (file .entry)) (now (sizes .entry)) (now (starts .entry)) (now (firsts .entry)) (now (nodes .entry))) k ⌝ }
+// Step number k of all actions, by the row of the index.
+pub fn find_step(file: &[u8], sizes: &[u8], count: usize, row: &[usize], k: usize) -> Sought
+    ensures { λ r. ⌜ soughtAnswer r ≡ seek (namesIn (now (file .entry)) (now (sizes .entry)) count (now (row .entry))) k ⌝ }
 {
     let mut left = k;
     let mut a: usize = 0;
-    while a < starts.len() {
-        let first = offset_within(firsts, a, nodes.len());
-        match find_in_action(file, sizes, starts[a], &nodes[first..], a, left) {
+    while a < count {
+        let own = own_nodes(row, a);
+        match find_in_action(file, sizes, offset_at(row, a), &row[own..], a, left) {
             Sought::Found(name, cost) => {
                 return Sought::Found(name, cost);
             }

@@ -10,7 +10,7 @@ use taskfile::Task;
 use words::Described;
 ghost use mathlib.Core.Path.{_≡_};
 ghost use lib.ListN.{length};
-ghost use Rattle.taskfile.specs.Index.{indexOf, Ready};
+ghost use Rattle.taskfile.specs.Index.{Ready};
 ghost use Rattle.words.specs.Answers.{describedAnswer};
 ghost use Rattle.words.specs.DescribeFile.{lengthIn, textIn};
 ghost use Rattle.steps.specs.NamedFile.{named};
@@ -38,23 +38,19 @@ fn name_in(
     list: &[u16],
     out: &mut [u8],
 ) -> Described
-    requires { ⌜ Ready (now file) (indexOf variables actions (now row)) ⌝ }
+    requires { ⌜ Ready (now file) variables actions (now row) ⌝ }
     ensures { λ r. ⌜ describedAnswer r ≡ lengthIn (length (now (out .entry))) (named (now (file .entry)) (now (list .entry))) ⌝ }
     ensures { λ r. ⌜ now (out .exit) ≡ textIn (now (out .entry)) (named (now (file .entry)) (now (list .entry))) ⌝ }
 {
-    let starts = &row[..Task::FIRSTS];
-    let firsts = &row[Task::FIRSTS..Task::NODES];
-    let nodes = &row[Task::NODES..Task::ROW];
     if Probe::MAX_LIST < list.len() {
         return Described::Refused(Refusal::Long(Probe::MAX_LIST));
     }
     let last = 1 + variables;
     let sizes = &file[1..last];
-    let action_at = &starts[..actions];
-    match lines::check_steps(file, sizes, action_at, firsts, nodes, list) {
+    match lines::check_steps(file, sizes, actions, row, list) {
         Checked::Refused(why) => Described::Refused(why),
         Checked::Accepted => {
-            let end = lines::put_lines(out, file, sizes, action_at, firsts, nodes, list);
+            let end = lines::put_lines(out, file, sizes, actions, row, list);
             Described::Length(end)
         }
     }

@@ -23,19 +23,12 @@ pub struct Line {
 }
 
 // Whether each number of a list is a step's: 11 at the first index where it is not.
-pub fn check_steps(
-    file: &[u8],
-    sizes: &[u8],
-    starts: &[usize],
-    firsts: &[usize],
-    nodes: &[usize],
-    list: &[u16],
-) -> Checked
-    ensures { λ r. ⌜ checkedAnswer r ≡ checkSteps (namesIn (now (file .entry)) (now (sizes .entry)) (now (starts .entry)) (now (firsts .entry)) (now (nodes .entry))) 0 (now (list .entry)) ⌝ }
+pub fn check_steps(file: &[u8], sizes: &[u8], count: usize, row: &[usize], list: &[u16]) -> Checked
+    ensures { λ r. ⌜ checkedAnswer r ≡ checkSteps (namesIn (now (file .entry)) (now (sizes .entry)) count (now (row .entry))) 0 (now (list .entry)) ⌝ }
 {
     let mut i: usize = 0;
     while i < list.len() {
-        match find_step(file, sizes, starts, firsts, nodes, list[i] as usize) {
+        match find_step(file, sizes, count, row, list[i] as usize) {
             Sought::Past(_) => {
                 return Checked::Refused(Refusal::Missing(i));
             }
@@ -52,19 +45,18 @@ pub fn put_lines(
     out: &mut [u8],
     file: &[u8],
     sizes: &[u8],
-    starts: &[usize],
-    firsts: &[usize],
-    nodes: &[usize],
+    count: usize,
+    row: &[usize],
     list: &[u16],
 ) -> usize
     requires { ⌜ length (now list) ≤ maxList ⌝ }
-    ensures { λ r. ⌜ Adds (linesFrom (namesIn (now (file .entry)) (now (sizes .entry)) (now (starts .entry)) (now (firsts .entry)) (now (nodes .entry))) 0 (now (list .entry))) (now (out .entry)) (now (out .exit)) 0 r ⌝ }
+    ensures { λ r. ⌜ Adds (linesFrom (namesIn (now (file .entry)) (now (sizes .entry)) count (now (row .entry))) 0 (now (list .entry))) (now (out .entry)) (now (out .exit)) 0 r ⌝ }
 {
     let mut end: usize = 0;
     let mut sum: u64 = 0;
     let mut i: usize = 0;
     while i < list.len() {
-        let line = put_entry(out, end, file, sizes, starts, firsts, nodes, list[i], sum);
+        let line = put_entry(out, end, file, sizes, count, row, list[i], sum);
         end = line.end;
         sum = line.sum;
         i += 1;
@@ -78,17 +70,16 @@ fn put_entry(
     at: usize,
     file: &[u8],
     sizes: &[u8],
-    starts: &[usize],
-    firsts: &[usize],
-    nodes: &[usize],
+    count: usize,
+    row: &[usize],
     k: u16,
     sum: u64,
 ) -> Line
     requires { ⌜ sum ≤ 4294967295 * maxList ⌝ }
-    ensures { λ r. ⌜ Adds (entryText (namesIn (now (file .entry)) (now (sizes .entry)) (now (starts .entry)) (now (firsts .entry)) (now (nodes .entry))) k sum) (now (out .entry)) (now (out .exit)) at (r .end) ⌝ }
-    ensures { λ r. ⌜ (r .sum ≡ sum + costAt (namesIn (now (file .entry)) (now (sizes .entry)) (now (starts .entry)) (now (firsts .entry)) (now (nodes .entry))) k) × (r .sum ≤ sum + 4294967295) ⌝ }
+    ensures { λ r. ⌜ Adds (entryText (namesIn (now (file .entry)) (now (sizes .entry)) count (now (row .entry))) k sum) (now (out .entry)) (now (out .exit)) at (r .end) ⌝ }
+    ensures { λ r. ⌜ (r .sum ≡ sum + costAt (namesIn (now (file .entry)) (now (sizes .entry)) count (now (row .entry))) k) × (r .sum ≤ sum + 4294967295) ⌝ }
 {
-    match find_step(file, sizes, starts, firsts, nodes, k as usize) {
+    match find_step(file, sizes, count, row, k as usize) {
         Sought::Past(_) => Line { end: at, sum },
         Sought::Found(name, cost) => {
             let paid = sum + cost as u64;

@@ -2,52 +2,43 @@
 use mathlib.Core.Path.{sym, ap, _∙_}
 use denote.Ref.{now}
 use Rattle.facts.specs.Answers.{checkedAnswer}
-use Rattle.words.specs.DescribeLaws.{begins-long, head-fits, sizes-in, refused-in, written-in}
+use Rattle.words.specs.DescribeLaws.{head-fits, sizes-in, refused-in, written-in}
 use Rattle.steps.specs.StepsLaws.{names-are, named-long, named-missing, named-is}
-use Rattle.taskfile.specs.TaskIndexLaws.{row-long}
 use borrow.Author.Needs.{needs}
 use native.Mathlib.Omega.{arith}
 use Rattle.steps.proofs.name_in.Statement.{statement}
 use Rattle.steps.proofs.name_in.Tie as tie
 
 returns : tie.Need-returns
-returns c = let s = c .before .before .before .before .before .before .before .before in refused-in (now (s .args .out)) (named-long (now (s .args .file)) (now (s .args .list)) (s .pre) (c .if1 .taken))
+returns c = let s = c .before .before .before .before .before in refused-in (now (s .args .out)) (named-long (now (s .args .file)) (now (s .args .list)) (s .pre) (c .if1 .taken))
 
 returns-2 : tie.Need-returns-2
 returns-2 c =
-    let s = c .before .before .before .before .before .before .before .before .before .before .before .before .before .before in
+    let s = c .before .before .before .before .before .before .before .before .before .before in
     let f = now (s .args .file) in
     let list = now (s .args .list) in
-    refused-in (now (s .args .out)) (named-missing f list (s .pre) (c .before .before .before .before .before .before .if1 .left) (names-are f list (s .pre) (sizes-in f (s .pre))) (sym (c .before .before .before .check-steps .ensures) ∙ ap checkedAnswer (c .before .why .given .1)))
+    refused-in (now (s .args .out)) (named-missing f list (s .pre) (c .before .before .before .before .before .if1 .left) (names-are f list (s .pre) (sizes-in f (s .pre))) (sym (c .before .before .before .check-steps .ensures) ∙ ap checkedAnswer (c .before .why .given .1)))
 
 returns-3 : tie.Need-returns-3
 returns-3 c =
-    let s = c .before .before .before .before .before .before .before .before .before .before .before .before .before .before .before .before .before in
+    let s = c .before .before .before .before .before .before .before .before .before .before .before .before .before in
     let f = now (s .args .file) in
     let list = now (s .args .list) in
-    written-in (named-is f list (s .pre) (c .before .before .before .before .before .before .before .before .before .if1 .left) (names-are f list (s .pre) (sizes-in f (s .pre))) (sym (c .before .before .before .before .before .before .check-steps .ensures) ∙ ap checkedAnswer (c .before .before .before .before .enum-told .given .1))) (c .before .before .put-lines .ensures)
+    written-in (named-is f list (s .pre) (c .before .before .before .before .before .before .before .before .if1 .left) (names-are f list (s .pre) (sizes-in f (s .pre))) (sym (c .before .before .before .before .before .before .check-steps .ensures) ∙ ap checkedAnswer (c .before .before .before .before .enum-told .given .1))) (c .before .before .put-lines .ensures)
 
 pub name-in-spec : {M : Type 1} → statement M
 name-in-spec =
     tie.close
     (tie.spec
-    (λ c. sym (c .before .before .before .before .before .pre .starts-long))
-    (λ c. search needs)
-    (λ c. search needs)
-    (λ c. omega (arith, row-long _ (now (c .before .before .before .before .before .args .row)) (c .before .before .before .before .before .pre)))
-    (λ c. search needs)
-    (λ c. search needs)
-    (λ c. omega (arith, row-long _ (now (c .before .before .before .before .before .before .args .row)) (c .before .before .before .before .before .before .pre)))
     returns
-    (λ c. omega (arith, head-fits _ (c .before .before .before .before .before .before .before .before .pre)))
+    (λ c. omega (arith, head-fits _ (c .before .before .before .before .before .pre)))
     (λ c. search needs)
     (λ c. search needs)
-    (λ c. omega (arith, head-fits _ (c .before .before .before .before .before .before .before .before .pre)))
-    (λ c. begins-long _ (c .before .before .before .before .before .before .before .before .before .before .pre))
+    (λ c. omega (arith, head-fits _ (c .before .before .before .before .before .pre)))
     (λ c κs. search needs)
     (λ c. search needs)
     (λ c. search needs)
-    (λ c κs. c .before .before .before .before .before .before .if1 .left)
+    (λ c κs. c .before .before .before .before .before .if1 .left)
     returns-2
     (λ c. search needs)
     returns-3)

@@ -1,11 +1,9 @@
 -- `steps::find::find_step` meets its contract: one action after the other, the steps that are passed taken off. Assumes nothing.
-use Prim.Native.Nat.{ℕ, _-_}
+use Prim.Native.Nat.{_-_}
 use mathlib.Core.Path.{_≡_, sym, ap, _∙_}
-use mathlib.Core.List.{List}
-use lib.ListN.{length, getD}
 use denote.Ref.{now}
-use Rattle.taskfile.specs.MoveInPlaceLaws.{own-nodes}
-use Rattle.taskfile.specs.PartsInPlace.{actionIn}
+use Rattle.taskfile.specs.Task.{Action}
+use Rattle.words.specs.RowLaws.{action-as}
 use Rattle.steps.specs.Steps.{actionNames}
 use Rattle.steps.specs.Seek.{seek, soughtAnswer, namesIn}
 use Rattle.steps.specs.SeekLaws.{Seeking, partOf, names-start, seeking-found, seeking-on, seeking-past}
@@ -15,21 +13,20 @@ use Rattle.steps.proofs.find.find_step.Statement.{statement}
 use Rattle.steps.proofs.find.find_step.Tie as tie
 
 abbrev Inv-loop : tie.InvT-loop
-Inv-loop file sizes starts firsts nodes k left₀ a₀ left a = Seeking (partOf file sizes starts firsts nodes) (seek (namesIn file sizes starts firsts nodes) k) a (length starts) left
+Inv-loop file sizes count row k left₀ a₀ left a = Seeking (partOf file sizes row) (seek (namesIn file sizes count row) k) a count left
 
 abbrev μ-loop : tie.MeasureT-loop
-μ-loop file sizes starts firsts nodes k left₀ a₀ left a = length starts - a
+μ-loop file sizes count row k left₀ a₀ left a = count - a
 
 loop-holds : tie.Need-loop-holds Inv-loop μ-loop
-loop-holds c = let x = c .before .before .before .before .before .args in names-start (now (x .file)) (now (x .sizes)) (now (x .starts)) (now (x .firsts)) (now (x .nodes)) (x .k)
+loop-holds c = let x = c .before .before .before .args in names-start (now (x .file)) (now (x .sizes)) (now (x .row)) (x .count) (x .k)
 
 -- what the action's own search says
-own : (c : tie.After-find-in-action Inv-loop μ-loop) → let x = c .before .before .before .before .before .before .before .before .before .before .before .args in seek (partOf (now (x .file)) (now (x .sizes)) (now (x .starts)) (now (x .firsts)) (now (x .nodes)) (c .before .before .before .before .before .loop .a)) (c .before .before .before .before .before .loop .left) ≡ soughtAnswer (c .find-in-action .result)
+own : (c : tie.After-find-in-action Inv-loop μ-loop) → let x = c .before .before .before .before .before .before .before .before .before .args in seek (partOf (now (x .file)) (now (x .sizes)) (now (x .row)) (c .before .before .before .before .before .loop .a)) (c .before .before .before .before .before .loop .left) ≡ soughtAnswer (c .find-in-action .result)
 own c =
-    let x = c .before .before .before .before .before .before .before .before .before .before .before .args in
+    let x = c .before .before .before .before .before .before .before .before .before .args in
     let a = c .before .before .before .before .before .loop .a in
-    let nodes = own-nodes (now (x .nodes)) (getD (now (x .firsts)) a 0) (c .before .before .before .offset-within .ensures) in
-    sym (c .find-in-action .ensures ∙ ap (λ (ns : List ℕ). seek (actionNames a (actionIn (now (x .file)) (now (x .sizes)) (getD (now (x .starts)) a 0) ns)) (c .before .before .before .before .before .loop .left)) nodes)
+    sym (c .find-in-action .ensures ∙ ap (λ (y : Action). seek (actionNames a y) (c .before .before .before .before .before .loop .left)) (action-as (now (x .file)) (now (x .sizes)) (now (x .row)) a (c .before .before .offset-at .ensures) (c .before .before .before .own-nodes .ensures)))
 
 returns : tie.Need-returns Inv-loop μ-loop
 returns c = seeking-found (c .before .before .before .before .before .before .before .before .loop .inv) (c .before .before .before .before .before .before .before .loop-test .taken) (own (c .before .before .before) ∙ ap soughtAnswer (c .before .name .given .1))
@@ -45,8 +42,7 @@ find-step-spec =
     μ-loop
     loop-holds
     (λ c κs. search needs)
-    (λ c. search needs)
-    (λ c. search needs)
+    (λ c κs. search needs)
     (λ c. search needs)
     (λ c. search needs)
     (λ c. search needs)

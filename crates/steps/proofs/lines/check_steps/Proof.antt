@@ -12,13 +12,13 @@ use Rattle.steps.proofs.lines.check_steps.Statement.{statement}
 use Rattle.steps.proofs.lines.check_steps.Tie as tie
 
 abbrev Inv-loop : tie.InvT-loop
-Inv-loop file sizes starts firsts nodes list i₀ i = Checking (namesIn file sizes starts firsts nodes) list (checkSteps (namesIn file sizes starts firsts nodes) 0 list) i
+Inv-loop file sizes count row list i₀ i = Checking (namesIn file sizes count row) list (checkSteps (namesIn file sizes count row) 0 list) i
 
 abbrev μ-loop : tie.MeasureT-loop
-μ-loop file sizes starts firsts nodes list i₀ i = length list - i
+μ-loop file sizes count row list i₀ i = length list - i
 
 loop-holds : tie.Need-loop-holds Inv-loop μ-loop
-loop-holds c = let x = c .before .before .before .before .before .before .args in checking-start (namesIn (now (x .file)) (now (x .sizes)) (now (x .starts)) (now (x .firsts)) (now (x .nodes))) (now (x .list))
+loop-holds c = let x = c .before .before .before .before .args in checking-start (namesIn (now (x .file)) (now (x .sizes)) (x .count) (now (x .row))) (now (x .list))
 
 returns : tie.Need-returns Inv-loop μ-loop
 returns c = checking-stops _ (c .before .before .before .before .before .loop .inv) (c .before .before .before .before .loop-test .taken) (sym (c .before .before .find-step .ensures) ∙ ap soughtAnswer (c .enum-told .given .1))
@@ -35,7 +35,7 @@ check-steps-spec =
     loop-holds
     (λ c. search needs)
     (λ c. search needs)
-    (λ c. omega (arith, c .shared-slice-known7 .given (c .before .before .loop .i) .fits))
+    (λ c. omega (arith, c .shared-slice-known5 .given (c .before .before .loop .i) .fits))
     (λ c κs. search needs)
     (λ c. search needs)
     returns

@@ -14,17 +14,17 @@ use Rattle.steps.proofs.lines.put_entry.Tie as tie
 
 -- the steps
 abbrev names : tie.Start → List Named
-names s = namesIn (now (s .args .file)) (now (s .args .sizes)) (now (s .args .starts)) (now (s .args .firsts)) (now (s .args .nodes))
+names s = namesIn (now (s .args .file)) (now (s .args .sizes)) (s .args .count) (now (s .args .row))
 
 returns : tie.Need-returns
 returns c =
-    let s = c .before .before .before .before .before .before .before .before .before in
+    let s = c .before .before .before .before .before .before .before in
     let h = sym (c .before .before .find-step .ensures) ∙ ap soughtAnswer (c .enum-told .given .1) in
     (adds-as (entry-none (names s) (s .args .k) (s .args .sum) h) (adds-none _ _), (omega (arith, cost-none (names s) (s .args .k) (s .args .sum) h), omega arith))
 
 returns-2 : tie.Need-returns-2
 returns-2 c =
-    let s = c .before .before .before .before .before .before .before .before .before .before .before .before .before .before in
+    let s = c .before .before .before .before .before .before .before .before .before .before .before .before in
     let h = sym (c .before .before .before .before .before .before .before .find-step .ensures) ∙ ap soughtAnswer (c .before .before .before .before .before .name .given .1) in
     (adds-as (entry-some (names s) (s .args .k) (s .args .sum) h) (c .before .before .put-line .ensures), (ap (λ (n : ℕ). s .args .sum + n) (cost-some (names s) (s .args .k) (s .args .sum) h), omega arith))
 

@@ -11,14 +11,14 @@ use Rattle.steps.proofs.lines.put_lines.Statement.{statement}
 use Rattle.steps.proofs.lines.put_lines.Tie as tie
 
 abbrev Inv-loop : tie.InvT-loop
-Inv-loop out₀ file sizes starts firsts nodes list end₀ sum₀ i₀ out end sum i =
-    (i ≤ length list) × (sum ≤ 4294967295 * i) × LinesLeft (namesIn file sizes starts firsts nodes) list (linesFrom (namesIn file sizes starts firsts nodes) 0 list) out₀ out end i sum
+Inv-loop out₀ file sizes count row list end₀ sum₀ i₀ out end sum i =
+    (i ≤ length list) × (sum ≤ 4294967295 * i) × LinesLeft (namesIn file sizes count row) list (linesFrom (namesIn file sizes count row) 0 list) out₀ out end i sum
 
 abbrev μ-loop : tie.MeasureT-loop
-μ-loop out₀ file sizes starts firsts nodes list end₀ sum₀ i₀ out end sum i = length list - i
+μ-loop out₀ file sizes count row list end₀ sum₀ i₀ out end sum i = length list - i
 
 loop-holds : tie.Need-loop-holds Inv-loop μ-loop
-loop-holds c = let x = c .before .before .before .before .before .before .before .args in (omega arith, omega arith, lines-start (namesIn (now (x .file)) (now (x .sizes)) (now (x .starts)) (now (x .firsts)) (now (x .nodes))) (now (x .list)) (now (x .out)))
+loop-holds c = let x = c .before .before .before .before .before .args in (omega arith, omega arith, lines-start (namesIn (now (x .file)) (now (x .sizes)) (x .count) (now (x .row))) (now (x .list)) (now (x .out)))
 
 loop-again : tie.Need-loop-again Inv-loop μ-loop
 loop-again c = (omega (arith, c .before .before .before .before .before .loop-test .taken), omega (arith, c .before .before .before .before .before .before .loop .inv .1, c .before .before .put-entry .ensures .1 .1), lines-more _ (c .before .before .before .before .before .before .loop .inv .2) (c .before .before .before .before .before .loop-test .taken) (c .before .before .put-entry .ensures .0) (c .before .before .put-entry .ensures .1 .0))
@@ -32,7 +32,7 @@ put-lines-spec =
     loop-holds
     (λ c. search needs)
     (λ c. search needs)
-    (λ c κs. omega (arith, c .before .before .before .loop .inv .1, c .before .before .loop-test .taken, c .before .before .before .before .before .before .before .before .before .before .before .pre))
+    (λ c κs. omega (arith, c .before .before .before .loop .inv .1, c .before .before .loop-test .taken, c .before .before .before .before .before .before .before .before .before .pre))
     (λ c. omega (arith, c .before .before .before .before .before .loop-test .taken))
     (λ c. omega (arith, c .before .before .before .before .before .loop-test .taken))
     loop-again
