@@ -4,9 +4,9 @@ use Prim.Native.Nat.{ℕ, zero, suc, _+_, _*_, _-_, _^_, _≤_, _<_}
 use native.Mathlib.Omega.{arith}
 use native.Mathlib.Numerals.{add-one}
 use mathlib.Core.List.{List, [], _∷_, _++_, append-nil, append-assoc}
-use lib.ListN.{length, getD, take, drop, replicate, length-append, length-drop, length-map, length-replicate, drop-of-length-le}
+use lib.ListN.{length, getD, take, drop, replicate, length-append, length-drop, length-replicate}
 use lib.Pow.{pow-mono}
-use lib.Seq.{drop-cons, append-snoc, length-take-le}
+use lib.Seq.{append-snoc, length-take-le}
 use Rattle.facts.specs.Bytes.{bytesOf}
 use Rattle.facts.specs.Partial.{Partial, writePartial}
 use Rattle.facts.specs.Write.{Wrote}
@@ -18,42 +18,48 @@ use Rattle.facts.specs.WriteRowLaws.{Cut, Going, going-start}
 
 -- ---- the domain sizes
 
-module _ (f actions : List ℕ) where
-  -- those of the markers of the actions from number a on
-  unfoldable pub markersFrom : ℕ → List ℕ
-  markersFrom a = markersIn f (drop a actions)
+module _ (f row : List ℕ) where
+  -- As many markers as actions.
+  pub markers-long : (a count : ℕ) → length (markersIn f row a count) ≡ count
+  markers-long a zero = refl
+  markers-long a (suc count) = ap suc (markers-long (suc a) count)
 
-  -- At first all are left.
-  pub markers-start : (out : List ℕ) → Going (markersIn f actions) (markersFrom 0) out out 0
-  unfolding markersFrom
-  markers-start out = going-start (markersIn f actions) out
+  module _ (actions : ℕ) where
+    -- those of the markers of the actions from number a on
+    unfoldable pub markersFrom : ℕ → List ℕ
+    markersFrom a = markersIn f row a (actions - a)
 
-  -- Then the one of action a, and those from the next on.
-  pub markers-cut : (a : ℕ) {count : ℕ} → count ≡ nodeCount f (getD actions a 0) → a < length actions → Cut (markersFrom a) ((count + 2) ∷ []) (markersFrom (a + 1))
-  unfolding markersFrom
-  markers-cut a e h = record { cut = ap (markersIn f) (drop-cons actions a 0 h) ∙ rw (e, add-one a) }
+    -- At first all are left.
+    pub markers-start : (out : List ℕ) → Going (markersIn f row 0 actions) (markersFrom 0) out out 0
+    unfolding markersFrom
+    markers-start out = let e : actions - 0 ≡ actions = omega arith in rw e (going-start (markersIn f row 0 actions) out)
 
-  -- At last none.
-  pub markers-none : (a : ℕ) → length actions ≤ a → markersFrom a ≡ []
-  unfolding markersFrom
-  markers-none a h = rw (drop-of-length-le actions {i = a} h)
+    -- Then the one of action a, and those from the next on.
+    pub markers-cut : (a : ℕ) {count : ℕ} → count ≡ nodeCount f (getD row a 0) → a < actions → Cut (markersFrom a) ((count + 2) ∷ []) (markersFrom (a + 1))
+    unfolding markersFrom
+    markers-cut a c h = let e : actions - a ≡ suc (actions - (a + 1)) = omega arith in record { cut = rw (e, c, add-one a) }
+
+    -- At last none.
+    pub markers-none : (a : ℕ) → actions - a ≡ 0 → markersFrom a ≡ []
+    unfolding markersFrom
+    markers-none a h = rw h
 
 -- A byte, the task's sizes, the semaphore's, and one for each action.
-pub sizes-long : (f : List ℕ) (n : ℕ) (actions : List ℕ) → 1 + n ≤ length f → length (sizesIn f n actions) ≡ 2 + n + length actions
-sizes-long f n actions h =
+pub sizes-long : (f : List ℕ) (n actions : ℕ) (row : List ℕ) → 1 + n ≤ length f → length (sizesIn f n actions row) ≡ 2 + n + actions
+sizes-long f n actions row h =
     omega (
       arith,
-      length-append (take n (drop 1 f)) (2 ∷ markersIn f actions),
+      length-append (take n (drop 1 f)) (2 ∷ markersIn f row 0 actions),
       length-take-le n (drop 1 f) (rw (length-drop 1 f) (omega arith)),
-      length-map actions (λ (at : ℕ). nodeCount f at + 2),
+      markers-long f row 0 actions,
     )
 
 -- The number of variables, the task's sizes, the semaphore's and the markers' are written.
-pub wrote-sizes : {before now : List ℕ} {k : ℕ} (f : List ℕ) (n : ℕ) (actions : List ℕ) {own : ℕ} → own ≡ n
-    → Wrote (((((n + (1 + length actions)) ∷ []) ++ take own (drop 1 f)) ++ (2 ∷ [])) ++ markersIn f actions) before now k → Wrote (sizesIn f n actions) before now k
-wrote-sizes {before} {now} {k} f n actions {own} e w =
-    let s : n + (1 + length actions) ≡ n + suc (length actions) = omega arith in
-    rw (s, e, append-snoc (take n (drop 1 f)) 2 (markersIn f actions)) at w
+pub wrote-sizes : {before now : List ℕ} {k : ℕ} (f : List ℕ) (n actions : ℕ) (row : List ℕ) {own : ℕ} → own ≡ n
+    → Wrote (((((n + (1 + actions)) ∷ []) ++ take own (drop 1 f)) ++ (2 ∷ [])) ++ markersIn f row 0 actions) before now k → Wrote (sizesIn f n actions row) before now k
+wrote-sizes {before} {now} {k} f n actions row {own} e w =
+    let s : n + (1 + actions) ≡ n + suc actions = omega arith in
+    rw (s, e, append-snoc (take n (drop 1 f)) 2 (markersIn f row 0 actions)) at w
 
 -- ---- rows of zeros
 
@@ -118,16 +124,16 @@ wrote-goal {before} {now} {k} p n actions bits h e w = subst (λ (q : Partial). 
 -- ---- all of it
 
 -- The lengths of head and step count.
-pub head-long : (f : List ℕ) (n : ℕ) (actions : List ℕ) (steps : ℕ)
-    → length (headIn f n actions ++ bytesOf 2 steps) ≡ length (sizesIn f n actions) + length (initIn f n (length actions)) + length (writePartial (goalIn f n (length actions))) + 2
-head-long f n actions steps =
-    let init = initIn f n (length actions) in
-    let goal = writePartial (goalIn f n (length actions)) in
-    omega (arith, length-append (headIn f n actions) (bytesOf 2 steps), length-append (sizesIn f n actions) (init ++ goal), length-append init goal)
+pub head-long : (f : List ℕ) (n actions : ℕ) (row : List ℕ) (steps : ℕ)
+    → length (headIn f n actions row ++ bytesOf 2 steps) ≡ length (sizesIn f n actions row) + length (initIn f n actions) + length (writePartial (goalIn f n actions)) + 2
+head-long f n actions row steps =
+    let init = initIn f n actions in
+    let goal = writePartial (goalIn f n actions) in
+    omega (arith, length-append (headIn f n actions row) (bytesOf 2 steps), length-append (sizesIn f n actions row) (init ++ goal), length-append init goal)
 
 -- Sizes, initial values, goal and step count are written.
-pub wrote-head : {before now : List ℕ} {k : ℕ} (f : List ℕ) (n : ℕ) (actions : List ℕ) (steps : ℕ)
-    → Wrote (((sizesIn f n actions ++ initIn f n (length actions)) ++ writePartial (goalIn f n (length actions))) ++ bytesOf 2 steps) before now k
-    → Wrote (headIn f n actions ++ bytesOf 2 steps) before now k
-wrote-head {before} {now} {k} f n actions steps w =
-    subst (λ (head : List ℕ). Wrote (head ++ bytesOf 2 steps) before now k) (append-assoc (sizesIn f n actions) (initIn f n (length actions)) (writePartial (goalIn f n (length actions)))) w
+pub wrote-head : {before now : List ℕ} {k : ℕ} (f : List ℕ) (n actions : ℕ) (row : List ℕ) (steps : ℕ)
+    → Wrote (((sizesIn f n actions row ++ initIn f n actions) ++ writePartial (goalIn f n actions)) ++ bytesOf 2 steps) before now k
+    → Wrote (headIn f n actions row ++ bytesOf 2 steps) before now k
+wrote-head {before} {now} {k} f n actions row steps w =
+    subst (λ (head : List ℕ). Wrote (head ++ bytesOf 2 steps) before now k) (append-assoc (sizesIn f n actions row) (initIn f n actions) (writePartial (goalIn f n actions))) w

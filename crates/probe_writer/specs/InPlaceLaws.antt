@@ -8,6 +8,7 @@ use lib.ListN.{length, getD, drop, length-append}
 use Rattle.facts.specs.Lists.{total}
 use Rattle.taskfile.specs.Task.{Node, Action}
 use Rattle.taskfile.specs.TaskFile.{edgeBytes}
+use Rattle.taskfile.specs.Row.{ownFrom}
 use Rattle.taskfile.specs.WalkInPlace.{nodeCount}
 use Rattle.facts.specs.Partial.{pastPartial}
 use Rattle.facts.specs.Write.{Wrote}
@@ -156,30 +157,30 @@ module _ (f sizes : List ℕ) (at : ℕ) (offsets : List ℕ) (n a : ℕ) {count
 
 -- ---- the steps of all actions
 
-module _ (f sizes actions firsts nodes : List ℕ) (count : ℕ) where
+module _ (f sizes row : List ℕ) (count : ℕ) where
   abbrev n : ℕ
   n = length sizes
 
   -- The actions from number a on: that one, and those from the next on.
   actions-left : (a : ℕ) → a < count
-      → actionsIn f sizes actions firsts nodes a (count - a)
-      ≡ actionIn f sizes (getD actions a 0) (drop (getD firsts a 0) nodes) ∷ actionsIn f sizes actions firsts nodes (a + 1) (count - (a + 1))
+      → actionsIn f sizes row a (count - a)
+      ≡ actionIn f sizes (getD row a 0) (drop (ownFrom row a) row) ∷ actionsIn f sizes row (a + 1) (count - (a + 1))
   actions-left a h = let e : count - a ≡ suc (count - (a + 1)) = omega arith in rw (e, add-one a)
 
   -- the steps of the actions from number a on, and their bytes
   unfoldable pub stepsLeft : ℕ → List Step
-  stepsLeft a = flat (actionSteps n) a (actionsIn f sizes actions firsts nodes a (count - a))
+  stepsLeft a = flat (actionSteps n) a (actionsIn f sizes row a (count - a))
 
   abbrev pub actionsFrom : ℕ → List ℕ
   actionsFrom a = writeEach writeStep (stepsLeft a)
 
   -- At first those of all.
-  pub left-start : stepsLeft 0 ≡ flat (actionSteps n) 0 (actionsIn f sizes actions firsts nodes 0 count)
+  pub left-start : stepsLeft 0 ≡ flat (actionSteps n) 0 (actionsIn f sizes row 0 count)
   unfolding stepsLeft
   left-start = let e : count - 0 ≡ count = omega arith in rw e
 
   -- Then those of action a, and those from the next on.
-  pub left-next : (a : ℕ) → a < count → stepsLeft a ≡ actionSteps n a (actionIn f sizes (getD actions a 0) (drop (getD firsts a 0) nodes)) ++ stepsLeft (a + 1)
+  pub left-next : (a : ℕ) → a < count → stepsLeft a ≡ actionSteps n a (actionIn f sizes (getD row a 0) (drop (ownFrom row a) row)) ++ stepsLeft (a + 1)
   unfolding stepsLeft
   left-next a h = ap (λ (xs : List Action). flat (actionSteps n) a xs) (actions-left a h) ∙ rw (add-one a)
 
@@ -189,13 +190,13 @@ module _ (f sizes actions firsts nodes : List ℕ) (count : ℕ) where
   left-none a h = rw h
 
   -- The same of their bytes.
-  pub actions-start : (out : List ℕ) → Going (writeEach writeStep (flat (actionSteps n) 0 (actionsIn f sizes actions firsts nodes 0 count))) (actionsFrom 0) out out 0
-  actions-start out = rw left-start (going-start (writeEach writeStep (flat (actionSteps n) 0 (actionsIn f sizes actions firsts nodes 0 count))) out)
+  pub actions-start : (out : List ℕ) → Going (writeEach writeStep (flat (actionSteps n) 0 (actionsIn f sizes row 0 count))) (actionsFrom 0) out out 0
+  actions-start out = rw left-start (going-start (writeEach writeStep (flat (actionSteps n) 0 (actionsIn f sizes row 0 count))) out)
 
-  pub actions-cut : (a : ℕ) {own : List ℕ} → own ≡ drop (getD firsts a 0) nodes → a < count
-      → Cut (actionsFrom a) (writeEach writeStep (actionSteps n a (actionIn f sizes (getD actions a 0) own))) (actionsFrom (a + 1))
-  actions-cut a {own} g h = record {
-    cut = ap (writeEach writeStep) (left-next a h) ∙ each-append writeStep (actionSteps n a (actionIn f sizes (getD actions a 0) (drop (getD firsts a 0) nodes))) (stepsLeft (a + 1)) ∙ rw g;
+  pub actions-cut : (a : ℕ) {at : ℕ} {own : List ℕ} → at ≡ getD row a 0 → own ≡ drop (ownFrom row a) row → a < count
+      → Cut (actionsFrom a) (writeEach writeStep (actionSteps n a (actionIn f sizes at own))) (actionsFrom (a + 1))
+  actions-cut a e g h = record {
+    cut = ap (writeEach writeStep) (left-next a h) ∙ each-append writeStep (actionSteps n a (actionIn f sizes (getD row a 0) (drop (ownFrom row a) row))) (stepsLeft (a + 1)) ∙ rw (e, g);
   }
 
   pub actions-none : (a : ℕ) → count - a ≡ 0 → actionsFrom a ≡ []

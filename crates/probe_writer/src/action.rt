@@ -1,49 +1,43 @@
 // The steps of actions, each written straight after the last one.
 use facts::number::byte_at;
 use facts::number::offset_at;
-use facts::number::offset_within;
 use step_writer::step::EDGE_BYTES;
 use step_writer::step::put_edge;
 use step_writer::step::put_end;
 use step_writer::step::put_start;
+use taskfile::Task;
+use walk::own_nodes;
 ghost use mathlib.Core.Path.{_≡_};
 ghost use Prim.Native.Nat.{ℕ, _+_, _≤_, _<_};
 ghost use lib.ListN.{length, getD, drop};
 ghost use Rattle.facts.specs.Partial.{pastPartial};
 ghost use Rattle.facts.specs.Fields.{writeEach};
 ghost use Rattle.facts.specs.Write.{Wrote};
+ghost use Rattle.taskfile.specs.Row.{ownFrom};
+ghost use Rattle.taskfile.specs.InPlace.{Fronts};
 ghost use Rattle.taskfile.specs.WalkInPlace.{incomingPlace};
 ghost use Rattle.probefile.specs.ProbeFile.{writeStep};
 ghost use Rattle.compilation.specs.Compile.{flat, nodeSteps, actionSteps};
 ghost use Rattle.taskfile.specs.PartsInPlace.{nodeIn, nodesIn, actionIn, actionsIn, Tests, Stood};
 
-// The steps of all actions: `action_at` has the offset of each, `effect_at` and `incoming_at` those of its effect and its incoming weight, `first_node` the index of its first node in `node_at`.
-pub fn put_actions(
-    file: &[u8],
-    sizes: &[u8],
-    action_at: &[usize],
-    effect_at: &[usize],
-    incoming_at: &[usize],
-    first_node: &[usize],
-    node_at: &[usize],
-    out: &mut [u8],
-) -> usize
-    requires { ⌜ (length (now sizes) ≤ 24) × (length (now «action_at») ≤ 32) × ((a : ℕ) → a < length (now «action_at») → getD (now «effect_at») a 0 ≡ pastPartial (now file) (getD (now «action_at») a 0)) ⌝ }
-    requires { ⌜ ((a : ℕ) → a < length (now «action_at») → Stood (now file) (now sizes) (getD (now «action_at») a 0) (drop (getD (now «first_node») a 0) (now «node_at»))) × ((a : ℕ) → a < length (now «action_at») → getD (now «incoming_at») a 0 ≡ incomingPlace (now file) (getD (now «action_at») a 0)) ⌝ }
-    requires { ⌜ length (writeEach writeStep (flat (actionSteps (length (now sizes))) 0 (actionsIn (now file) (now sizes) (now «action_at») (now «first_node») (now «node_at») 0 (length (now «action_at»))))) ≤ length (now out) ⌝ }
-    ensures { λ r. ⌜ Wrote (writeEach writeStep (flat (actionSteps (length (now (sizes .entry)))) 0 (actionsIn (now (file .entry)) (now (sizes .entry)) (now («action_at» .entry)) (now («first_node» .entry)) (now («node_at» .entry)) 0 (length (now («action_at» .entry)))))) (now (out .entry)) (now (out .exit)) r ⌝ }
+// The steps of all `count` actions, by the row of the index.
+pub fn put_actions(file: &[u8], sizes: &[u8], count: usize, row: &[usize], out: &mut [u8]) -> usize
+    requires { ⌜ (length (now sizes) ≤ 24) × (count ≤ 32) × Fronts (now file) count (now row) ⌝ }
+    requires { ⌜ ((a : ℕ) → a < count → Stood (now file) (now sizes) (getD (now row) a 0) (drop (ownFrom (now row) a) (now row))) ⌝ }
+    requires { ⌜ length (writeEach writeStep (flat (actionSteps (length (now sizes))) 0 (actionsIn (now file) (now sizes) (now row) 0 count))) ≤ length (now out) ⌝ }
+    ensures { λ r. ⌜ Wrote (writeEach writeStep (flat (actionSteps (length (now (sizes .entry)))) 0 (actionsIn (now (file .entry)) (now (sizes .entry)) (now (row .entry)) 0 count))) (now (out .entry)) (now (out .exit)) r ⌝ }
 {
     let mut at: usize = 0;
     let mut a: usize = 0;
-    while a < action_at.len() {
-        let first = offset_within(first_node, a, node_at.len());
+    while a < count {
+        let own = own_nodes(row, a);
         at += put_action(
             file,
             sizes,
-            action_at[a],
-            offset_at(effect_at, a),
-            offset_at(incoming_at, a),
-            &node_at[first..],
+            offset_at(row, a),
+            offset_at(row, Task::EFFECTS + a),
+            offset_at(row, Task::INCOMING + a),
+            &row[own..],
             a,
             &mut out[at..],
         );

@@ -7,6 +7,7 @@ use step_writer::put::put_byte;
 use step_writer::put::put_bytes;
 use step_writer::put::put_extended;
 use step_writer::put::put_word;
+use taskfile::Task;
 ghost use mathlib.Core.Path.{_≡_};
 ghost use mathlib.Core.List.{_++_};
 ghost use Prim.Native.Nat.{ℕ, _+_, _*_, _^_, _≤_, _<_};
@@ -14,6 +15,7 @@ ghost use lib.ListN.{length, getD};
 ghost use Rattle.facts.specs.Bytes.{bytesOf};
 ghost use Rattle.facts.specs.Partial.{partialAt, partialBytes, writePartial};
 ghost use Rattle.facts.specs.Write.{Wrote};
+ghost use Rattle.taskfile.specs.Row.{incomingFrom};
 ghost use Rattle.taskfile.specs.PartsInPlace.{Stands};
 ghost use Rattle.step_writer.specs.InPlace.{Weighs};
 ghost use Rattle.probe_writer.specs.HeadInPlace.{markersIn, sizesIn, initIn, goalIn, headIn};
@@ -27,56 +29,50 @@ pub fn head_length(file: &[u8], n: usize, actions: usize) -> usize
     3 + 2 * n + length_at(file, goal) + 3 * (1 + actions)
 }
 
-// Head and step count: `action_at` has the offset of each action, `incoming_at` that of its incoming weight.
+// Head and step count, by the row of the index.
 pub fn put_head(
     file: &[u8],
     n: usize,
-    action_at: &[usize],
-    incoming_at: &[usize],
+    actions: usize,
+    row: &[usize],
     steps: usize,
     out: &mut [u8],
 ) -> usize
-    requires { ⌜ (n ≤ 24) × (length (now «action_at») ≤ 32) × (steps < 65536) × Stands (now file) n (1 + 2 * n) ⌝ }
-    requires { ⌜ ((a : ℕ) → a < length (now «action_at») → Weighs (now file) (getD (now «action_at») a 0) (getD (now «incoming_at») a 0)) ⌝ }
-    requires { ⌜ length (headIn (now file) n (now «action_at») ++ bytesOf 2 steps) ≤ length (now out) ⌝ }
-    ensures { λ r. ⌜ Wrote (headIn (now (file .entry)) n (now («action_at» .entry)) ++ bytesOf 2 steps) (now (out .entry)) (now (out .exit)) r ⌝ }
+    requires { ⌜ (n ≤ 24) × (actions ≤ 32) × (steps < 65536) × Stands (now file) n (1 + 2 * n) ⌝ }
+    requires { ⌜ ((a : ℕ) → a < actions → Weighs (now file) (getD (now row) a 0) (getD (now row) (incomingFrom + a) 0)) ⌝ }
+    requires { ⌜ length (headIn (now file) n actions (now row) ++ bytesOf 2 steps) ≤ length (now out) ⌝ }
+    ensures { λ r. ⌜ Wrote (headIn (now (file .entry)) n actions (now (row .entry)) ++ bytesOf 2 steps) (now (out .entry)) (now (out .exit)) r ⌝ }
 {
-    let sizes = put_sizes(file, n, action_at, incoming_at, out);
-    let init = sizes + put_init(file, n, action_at.len(), &mut out[sizes..]);
-    let goal = init + put_goal(file, n, action_at.len(), &mut out[init..]);
+    let sizes = put_sizes(file, n, actions, row, out);
+    let init = sizes + put_init(file, n, actions, &mut out[sizes..]);
+    let goal = init + put_goal(file, n, actions, &mut out[init..]);
     goal + put_word(&mut out[goal..], steps as u32)
 }
 
 // The number of variables and the domain sizes: those of the task, 2 for the semaphore, one for each marker.
-fn put_sizes(
-    file: &[u8],
-    n: usize,
-    action_at: &[usize],
-    incoming_at: &[usize],
-    out: &mut [u8],
-) -> usize
-    requires { ⌜ (n ≤ 24) × (length (now «action_at») ≤ 32) × (1 + 2 * n ≤ length (now file)) ⌝ }
-    requires { ⌜ ((a : ℕ) → a < length (now «action_at») → Weighs (now file) (getD (now «action_at») a 0) (getD (now «incoming_at») a 0)) ⌝ }
-    requires { ⌜ 2 + n + length (now «action_at») ≤ length (now out) ⌝ }
-    ensures { λ r. ⌜ Wrote (sizesIn (now (file .entry)) n (now («action_at» .entry))) (now (out .entry)) (now (out .exit)) r ⌝ }
+fn put_sizes(file: &[u8], n: usize, actions: usize, row: &[usize], out: &mut [u8]) -> usize
+    requires { ⌜ (n ≤ 24) × (actions ≤ 32) × (1 + 2 * n ≤ length (now file)) ⌝ }
+    requires { ⌜ ((a : ℕ) → a < actions → Weighs (now file) (getD (now row) a 0) (getD (now row) (incomingFrom + a) 0)) ⌝ }
+    requires { ⌜ 2 + n + actions ≤ length (now out) ⌝ }
+    ensures { λ r. ⌜ Wrote (sizesIn (now (file .entry)) n actions (now (row .entry))) (now (out .entry)) (now (out .exit)) r ⌝ }
 {
     let last = 1 + n;
-    let count = put_byte(out, (n + (1 + action_at.len())) as u8);
+    let count = put_byte(out, (n + (1 + actions)) as u8);
     let own = count + put_bytes(&mut out[count..], &file[1..last]);
     let semaphore = own + put_byte(&mut out[own..], 2);
-    semaphore + put_markers(file, action_at, incoming_at, &mut out[semaphore..])
+    semaphore + put_markers(file, actions, row, &mut out[semaphore..])
 }
 
 // The domain size of each action's marker: 0, each node and the terminal.
-fn put_markers(file: &[u8], action_at: &[usize], incoming_at: &[usize], out: &mut [u8]) -> usize
-    requires { ⌜ ((a : ℕ) → a < length (now «action_at») → Weighs (now file) (getD (now «action_at») a 0) (getD (now «incoming_at») a 0)) ⌝ }
-    requires { ⌜ length (now «action_at») ≤ length (now out) ⌝ }
-    ensures { λ r. ⌜ Wrote (markersIn (now (file .entry)) (now («action_at» .entry))) (now (out .entry)) (now (out .exit)) r ⌝ }
+fn put_markers(file: &[u8], actions: usize, row: &[usize], out: &mut [u8]) -> usize
+    requires { ⌜ ((a : ℕ) → a < actions → Weighs (now file) (getD (now row) a 0) (getD (now row) (incomingFrom + a) 0)) ⌝ }
+    requires { ⌜ (actions ≤ length (now out)) × (actions ≤ 32) ⌝ }
+    ensures { λ r. ⌜ Wrote (markersIn (now (file .entry)) (now (row .entry)) 0 actions) (now (out .entry)) (now (out .exit)) r ⌝ }
 {
     let mut at: usize = 0;
     let mut a: usize = 0;
-    while a < action_at.len() {
-        let incoming = offset_at(incoming_at, a);
+    while a < actions {
+        let incoming = offset_at(row, Task::INCOMING + a);
         let size = byte_at(file, incoming + 2) as usize + 2;
         at += put_byte(&mut out[at..], size as u8);
         a += 1;

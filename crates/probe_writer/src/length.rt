@@ -1,12 +1,14 @@
 // How many steps the actions of a task have, and how many bytes.
 use facts::number::byte_at;
 use facts::number::offset_at;
-use facts::number::offset_within;
+use taskfile::Task;
+use walk::own_nodes;
 ghost use mathlib.Core.Path.{_≡_};
 ghost use Prim.Native.Nat.{ℕ, _+_, _*_, _≤_, _<_};
 ghost use lib.ListN.{length, getD, drop};
 ghost use Rattle.facts.specs.Lists.{total};
-ghost use Rattle.taskfile.specs.WalkInPlace.{incomingPlace};
+ghost use Rattle.taskfile.specs.Row.{ownFrom};
+ghost use Rattle.taskfile.specs.InPlace.{Fronts};
 ghost use Rattle.compilation.specs.Compile.{flat, actionSteps, edgeCount};
 ghost use Rattle.compilation.specs.CompiledLengthLaws.{stepBytes};
 ghost use Rattle.taskfile.specs.PartsInPlace.{nodesIn, actionsIn, Tests, Stood};
@@ -23,29 +25,21 @@ pub struct Extent {
     pub bytes: usize,
 }
 
-// The steps of all actions: `action_at` has the offset of each, `incoming_at` that of its incoming weight, `first_node` the index of its first node in `node_at`.
-pub fn extent_of(
-    file: &[u8],
-    sizes: &[u8],
-    action_at: &[usize],
-    incoming_at: &[usize],
-    first_node: &[usize],
-    node_at: &[usize],
-) -> Extent
-    requires { ⌜ (length (now sizes) ≤ 24) × (length (now «action_at») ≤ 32) ⌝ }
-    requires { ⌜ ((a : ℕ) → a < length (now «action_at») → Stood (now file) (now sizes) (getD (now «action_at») a 0) (drop (getD (now «first_node») a 0) (now «node_at»))) × ((a : ℕ) → a < length (now «action_at») → getD (now «incoming_at») a 0 ≡ incomingPlace (now file) (getD (now «action_at») a 0)) ⌝ }
-    ensures { λ r. ⌜ r .steps ≡ length (flat (actionSteps (length (now (sizes .entry)))) 0 (actionsIn (now (file .entry)) (now (sizes .entry)) (now («action_at» .entry)) (now («first_node» .entry)) (now («node_at» .entry)) 0 (length (now («action_at» .entry))))) ⌝ }
-    ensures { λ r. ⌜ r .bytes ≡ total stepBytes (flat (actionSteps (length (now (sizes .entry)))) 0 (actionsIn (now (file .entry)) (now (sizes .entry)) (now («action_at» .entry)) (now («first_node» .entry)) (now («node_at» .entry)) 0 (length (now («action_at» .entry))))) ⌝ }
+// The steps of all `count` actions, by the row of the index.
+pub fn extent_of(file: &[u8], sizes: &[u8], count: usize, row: &[usize]) -> Extent
+    requires { ⌜ (length (now sizes) ≤ 24) × (count ≤ 32) × Fronts (now file) count (now row) ⌝ }
+    requires { ⌜ ((a : ℕ) → a < count → Stood (now file) (now sizes) (getD (now row) a 0) (drop (ownFrom (now row) a) (now row))) ⌝ }
+    ensures { λ r. ⌜ r .steps ≡ length (flat (actionSteps (length (now (sizes .entry)))) 0 (actionsIn (now (file .entry)) (now (sizes .entry)) (now (row .entry)) 0 count)) ⌝ }
+    ensures { λ r. ⌜ r .bytes ≡ total stepBytes (flat (actionSteps (length (now (sizes .entry)))) 0 (actionsIn (now (file .entry)) (now (sizes .entry)) (now (row .entry)) 0 count)) ⌝ }
 {
     let mut steps: usize = 0;
     let mut bytes: usize = 0;
     let mut a: usize = 0;
-    while a < action_at.len() {
-        let at = action_at[a];
-        let first = offset_within(first_node, a, node_at.len());
-        let incoming = offset_at(incoming_at, a);
-        let count = byte_at(file, incoming + 2);
-        let edges = edge_count(file, sizes, &node_at[first..], count);
+    while a < count {
+        let at = offset_at(row, a);
+        let incoming = offset_at(row, Task::INCOMING + a);
+        let own = own_nodes(row, a);
+        let edges = edge_count(file, sizes, &row[own..], byte_at(file, incoming + 2));
         steps += 2 + edges;
         bytes += START_AND_END + (incoming - at) + EDGE_STEP * edges;
         a += 1;
