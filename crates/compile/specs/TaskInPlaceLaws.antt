@@ -17,11 +17,11 @@ use Rattle.facts.specs.WriteLaws.{fitting-all, fitting-none, wrote-inside, wrot
 use Rattle.facts.specs.Fields.{writeEach, writeHead}
 use Rattle.taskfile.specs.Task.{Action, Task}
 use Rattle.taskfile.specs.TaskFile.{readTask, checkTask}
-use Rattle.taskfile.specs.Index.{Index, Ready}
+use Rattle.taskfile.specs.Index.{Ready}
 use Rattle.taskfile.specs.WalkInPlace.{nodeCount}
 use Rattle.taskfile.specs.WalkInPlaceLaws.{count-is}
 use Rattle.taskfile.specs.TaskReadLaws.{task-wf}
-use Rattle.taskfile.specs.AnswerLaws.{there as task-there, starts, starts-count}
+use Rattle.taskfile.specs.AnswerLaws.{there as task-there, starts}
 use Rattle.probefile.specs.Probe.{Step}
 use Rattle.probefile.specs.ProbeFile.{writeStep, writeProbe}
 use Rattle.compilation.specs.Compile.{flat, variables, actionSteps, stepsOf, markerSize, probeOf}
@@ -29,33 +29,29 @@ use Rattle.compilation.specs.CompiledLaws.{allSizes, sizes-length}
 use Rattle.compilation.specs.CompiledLengthLaws.{stepBytes, probe-written, clear-length}
 use Rattle.probe_writer.specs.HeadInPlace.{markersIn, headIn}
 use Rattle.taskfile.specs.PartsInPlace.{actionsIn}
-use Rattle.taskfile.specs.PartsInPlaceLaws.{located, actions-in-place}
+use Rattle.taskfile.specs.PartsInPlaceLaws.{actions-in-place}
 use Rattle.compilation.specs.CompileFile.{compileFile, compiledBuffer}
 
 -- ---- the file of a task's probe
 
--- The sizes of the markers of actions whose offsets these are.
-markers-are : (f starts : List ℕ) (xs : List Action) → length starts ≡ length xs → ((k : ℕ) (x : Action) → At xs k x → nodeCount f (getD starts k 0) ≡ length (x .nodes))
-    → markersIn f starts ≡ map markerSize xs
-markers-are f [] [] e h = refl
-markers-are f [] (x ∷ xs) e h = absurd (omega arith)
-markers-are f (at ∷ starts) [] e h = absurd (omega arith)
-markers-are f (at ∷ starts) (x ∷ xs) e h =
-    ap₂ (λ (d : ℕ) (ds : List ℕ). d ∷ ds) (ap (λ (m : ℕ). m + 2) (h 0 x here)) (markers-are f starts xs (omega arith) (λ k y a. h (suc k) y (there a)))
+-- The sizes of the markers of actions whose offsets the row has from number a on.
+markers-are : (f row : List ℕ) (a : ℕ) (xs : List Action) → ((k q : ℕ) (x : Action) → At xs k x → q ≡ a + k → nodeCount f (getD row q 0) ≡ length (x .nodes)) → markersIn f row a (length xs) ≡ map markerSize xs
+markers-are f row a [] h = refl
+markers-are f row a (x ∷ xs) h =
+    ap₂ (λ (d : ℕ) (ds : List ℕ). d ∷ ds) (ap (λ (m : ℕ). m + 2) (h 0 a x here (omega arith))) (markers-are f row (suc a) xs (λ k q y i e. h (suc k) q y (there i) (omega arith)))
 
 -- its head
 abbrev head : Task → List ℕ
 head t = writeHead (record { sizes = probeOf t .sizes; init = probeOf t .init; goal = probeOf t .goal })
 
-module _ (f : List ℕ) (n : ℕ) (starts : List ℕ) (t : Task) where
+module _ (f : List ℕ) (n k : ℕ) (row : List ℕ) (t : Task) where
   -- The head in place is the probe's, if each part is: the number of variables is one byte.
   head-is : variables t ≡ n → take n (drop 1 f) ≡ t .sizes → take n (drop (1 + n) f) ≡ t .init → partialAt f (1 + 2 * n) ≡ t .goal
-      → length starts ≡ length (t .actions) → markersIn f starts ≡ map markerSize (t .actions) → n + suc (length starts) < 256
-      → headIn f n starts ≡ head t
+      → length (t .actions) ≡ k → markersIn f row 0 k ≡ map markerSize (t .actions) → n + suc k < 256 → headIn f n k row ≡ head t
   unfolding probeOf writeHead
   head-is v s i g a m few =
-      let count : n + suc (length starts) ≡ length (allSizes t) % 256 = omega (arith, sizes-length t) in
-      rw (count, s, i, g, m, a, ← v)
+      let count : n + suc k ≡ length (allSizes t) % 256 = omega (arith, sizes-length t) in
+      rw (count, s, i, g, m, ← a, ← v)
 
 -- Head, step count and steps are the file.
 file-is : (t : Task) {front : List ℕ} {steps : List Step} {count : ℕ} → front ≡ head t → steps ≡ stepsOf t → count ≡ length steps
@@ -65,17 +61,13 @@ file-is t {front} {steps} {count} h s c = append-assoc front (bytesOf 2 count) (
 
 -- ---- the task of an accepted file with this index
 
-module _ (f : List ℕ) {i : Index} (ready : Ready f i) where
+module _ (f : List ℕ) {n k : ℕ} {row : List ℕ} (ready : Ready f n k row) where
   abbrev t : Task
   t = task-there f ready .task
 
-  -- the offset of each action
-  abbrev begins : List ℕ
-  begins = take (i .actions) (i .starts)
-
   -- the steps written from them
   abbrev steps : List ℕ → List Step
-  steps sizes = flat (actionSteps (length sizes)) 0 (actionsIn f sizes begins (i .firsts) (i .nodes) 0 (length begins))
+  steps sizes = flat (actionSteps (length sizes)) 0 (actionsIn f sizes row 0 k)
 
   -- They are the task's.
   pub steps-in-place : {sizes : List ℕ} → sizes ≡ t .sizes → steps sizes ≡ stepsOf t
@@ -83,17 +75,22 @@ module _ (f : List ℕ) {i : Index} (ready : Ready f i) where
   steps-in-place e = rw (e, actions-in-place f ready)
 
   -- The sizes of the markers in place are the task's.
-  markers-in-place : markersIn f begins ≡ map markerSize (t .actions)
-  markers-in-place = markers-are f begins (t .actions) (starts-count f ready) (λ a x h. count-is f (located f ready .lies t (task-there f ready .reads) a x h))
+  markers-in-place : markersIn f row 0 k ≡ map markerSize (t .actions)
+  markers-in-place =
+      ap (markersIn f row 0) (sym (task-there f ready .actions))
+      ∙ markers-are f row 0 (t .actions) (λ a q x h e.
+      let same : q ≡ a = omega arith in
+      rw same (count-is f (ready .located .lies t (task-there f ready .reads) a x h)))
 
   -- The head in place is the probe's.
-  head-in-place : headIn f (i .variables) begins ≡ head t
+  head-in-place : headIn f n k row ≡ head t
   head-in-place =
       let s = starts f ready in
-      head-is f (i .variables) begins t (task-there f ready .variables) (s .sizes) (s .init) (s .goal) (starts-count f ready) markers-in-place (omega (arith, s .variables, s .actions, starts-count f ready, task-there f ready .actions))
+      let there = task-there f ready in
+      head-is f n k row t (there .variables) (s .sizes) (s .init) (s .goal) (there .actions) markers-in-place (omega (arith, s .variables, s .actions))
 
   -- The length of the probe's file: that of head and step count, and that of the steps.
-  pub file-length : {sizes : List ℕ} {own bytes : ℕ} → sizes ≡ t .sizes → own ≡ 3 + 2 * i .variables + partialBytes (partialAt f (1 + 2 * i .variables)) + 3 * (1 + i .actions)
+  pub file-length : {sizes : List ℕ} {own bytes : ℕ} → sizes ≡ t .sizes → own ≡ 3 + 2 * n + partialBytes (partialAt f (1 + 2 * n)) + 3 * (1 + k)
       → bytes ≡ total stepBytes (steps sizes) → own + bytes ≡ length (writeProbe (probeOf t))
   unfolding probeOf
   file-length e h b =
@@ -118,7 +115,7 @@ module _ (f : List ℕ) {i : Index} (ready : Ready f i) where
   module _ {sizes : List ℕ} (e : sizes ≡ t .sizes) {count : ℕ} (c : count ≡ length (steps sizes)) where
     -- head and step count, as they are written
     abbrev front : List ℕ
-    front = headIn f (i .variables) begins ++ bytesOf 2 count
+    front = headIn f n k row ++ bytesOf 2 count
 
     -- What is written, front and steps, is the probe's file.
     file-in-place : front ++ writeEach writeStep (steps sizes) ≡ writeProbe (probeOf t)

@@ -6,7 +6,7 @@ use taskfile::Counted;
 use taskfile::Task;
 ghost use mathlib.Core.Path.{_≡_};
 ghost use lib.ListN.{length};
-ghost use Rattle.taskfile.specs.Index.{indexOf, Ready};
+ghost use Rattle.taskfile.specs.Index.{Ready};
 ghost use Rattle.compilation.specs.CompileFile.{compileFile, compiledBuffer, compiledAnswer};
 
 // Writes the probe file of a task: the task file's refusals, then 7 where the buffer is too short; a refusal changes no byte.
@@ -29,40 +29,18 @@ fn compile_in(
     row: &[usize],
     out: &mut [u8],
 ) -> Compiled
-    requires { ⌜ Ready (now file) (indexOf variables actions (now row)) ⌝ }
+    requires { ⌜ Ready (now file) variables actions (now row) ⌝ }
     ensures { λ r. ⌜ compiledAnswer r ≡ compileFile (now (file .entry)) (length (now (out .entry))) ⌝ }
     ensures { λ r. ⌜ now (out .exit) ≡ compiledBuffer (now (file .entry)) (now (out .entry)) ⌝ }
 {
-    let starts = &row[..Task::FIRSTS];
-    let firsts = &row[Task::FIRSTS..Task::NODES];
-    let nodes = &row[Task::NODES..Task::ROW];
     let last = 1 + variables;
     let sizes = &file[1..last];
-    let action_at = &starts[..actions];
-    let effect_at = &starts[Task::EFFECTS..Task::INCOMING];
-    let incoming_at = &starts[Task::INCOMING..Task::FIRSTS];
-    let extent = extent_of(file, sizes, action_at, incoming_at, firsts, nodes);
+    let extent = extent_of(file, sizes, actions, row);
     let needed = probe_writer::head::head_length(file, variables, actions) + extent.bytes;
     if out.len() < needed {
         return Compiled::Refused(Refusal::Short(needed));
     }
-    let at = probe_writer::head::put_head(
-        file,
-        variables,
-        action_at,
-        incoming_at,
-        extent.steps,
-        out,
-    );
-    let written = probe_writer::action::put_actions(
-        file,
-        sizes,
-        action_at,
-        effect_at,
-        incoming_at,
-        firsts,
-        nodes,
-        &mut out[at..],
-    );
+    let at = probe_writer::head::put_head(file, variables, actions, row, extent.steps, out);
+    let written = probe_writer::action::put_actions(file, sizes, actions, row, &mut out[at..]);
     Compiled::Length(at + written)
 }

@@ -4,10 +4,10 @@ use mathlib.Core.Path.{_≡_, sym, ap, _∙_}
 use mathlib.Core.List.{List}
 use denote.Ref.{now}
 use lib.ListN.{length, getD, take, drop}
-use lib.Seq.{length-take-le}
 use borrow.Rule.Slice.PartMut.{putMid}
 use Rattle.facts.specs.Write.{Wrote}
-use Rattle.taskfile.specs.WalkInPlace.{incomingPlace}
+use Rattle.taskfile.specs.Row.{ownFrom}
+use Rattle.taskfile.specs.PartsInPlace.{Stood}
 use Rattle.taskfile.specs.TaskReadLaws.{task-wf, task-limits}
 use Rattle.taskfile.specs.AnswerLaws.{There, there, Starts, starts}
 use Rattle.probefile.specs.ProbeFile.{writeProbe}
@@ -15,9 +15,8 @@ use Rattle.compilation.specs.Compile.{probeOf}
 use Rattle.compilation.specs.StepLaws.{steps-most}
 use Rattle.compilation.specs.CompiledLengthLaws.{compiled-length}
 use Rattle.probe_writer.specs.ExtentLaws.{weighs}
-use Rattle.taskfile.specs.PartsInPlaceLaws.{actions-stood, effects-noted, incoming-noted, goal-stands}
+use Rattle.taskfile.specs.PartsInPlaceLaws.{actions-stood, goal-stands}
 use Rattle.compile.specs.TaskInPlaceLaws.{steps-in-place, file-length, front-room, front-inside, steps-room, file-wrote, compile-short, compile-wrote}
-use Rattle.taskfile.specs.TaskIndexLaws.{row-long}
 use borrow.Author.Needs.{needs}
 use native.Mathlib.Omega.{arith}
 use Rattle.compile.proofs.compile_in.Statement.{statement}
@@ -37,71 +36,64 @@ probe c = writeProbe (probeOf (task c .task))
 sizes-are : (c : tie.Start) → take (1 + c .args .variables - 1) (drop 1 (now (c .args .file))) ≡ task c .task .sizes
 sizes-are c = let same : 1 + c .args .variables - 1 ≡ c .args .variables = omega arith in ap (λ (k : ℕ). take k (drop 1 (now (c .args .file)))) same ∙ begins c .sizes
 
--- the offset of each action
-few : (c : tie.Start) → c .args .actions ≤ length (take 96 (now (c .args .row)))
-few c = omega (arith, begins c .actions, c .pre .starts-long)
+-- there are at most 24
+few : (c : tie.Start) → length (take (1 + c .args .variables - 1) (drop 1 (now (c .args .file)))) ≤ 24
+few c = omega (arith, ap length (sizes-are c), task c .variables, begins c .variables)
 
-starts-long : (c : tie.Start) → length (take (c .args .actions) (take 96 (now (c .args .row)))) ≡ c .args .actions
-starts-long c = length-take-le (c .args .actions) (take 96 (now (c .args .row))) (few c)
-
--- the limits
-limits : (c : tie.Start) → (length (take (1 + c .args .variables - 1) (drop 1 (now (c .args .file)))) ≤ 24) × (length (take (c .args .actions) (take 96 (now (c .args .row)))) ≤ 32)
-limits c = (omega (arith, ap length (sizes-are c), task c .variables, begins c .variables), omega (arith, starts-long c, begins c .actions))
-
--- where each incoming weight stands
-noted : (c : tie.Start) (a : ℕ) → a < length (take (c .args .actions) (take 96 (now (c .args .row)))) → getD (take 32 (drop 64 (take 96 (now (c .args .row))))) a 0 ≡ incomingPlace (now (c .args .file)) (getD (take (c .args .actions) (take 96 (now (c .args .row)))) a 0)
-noted c = incoming-noted (now (c .args .file)) (c .pre) (begins c .actions)
+-- where each action stands
+stood : (c : tie.Start) → let row = now (c .args .row) in (a : ℕ) → a < c .args .actions → Stood (now (c .args .file)) (take (1 + c .args .variables - 1) (drop 1 (now (c .args .file)))) (getD row a 0) (drop (ownFrom row a) row)
+stood c = actions-stood (now (c .args .file)) (c .pre) (sizes-are c)
 
 extent-of-requires : tie.Need-extent-of-requires
-extent-of-requires c κs = let s = c .before .before .before .before .before .before .before .before .before .before in (limits s, (actions-stood (now (s .args .file)) (s .pre) (sizes-are s), noted s))
+extent-of-requires c κs = let s = c .before .before .before .before in ((few s, begins s .actions, s .pre .fronts), stood s)
 
 head-length-requires : tie.Need-head-length-requires
-head-length-requires c κs = let b = begins (c .before .before .before .before .before .before .before .before .before .before .before) in (b .variables, b .actions, b .fits)
+head-length-requires c κs = let b = begins (c .before .before .before .before .before) in (b .variables, b .actions, b .fits)
 
 -- the length that is needed
-needed-is : (c : tie.After-head-length) → c .head-length .result + c .before .extent-of .result .bytes ≡ length (probe (c .before .before .before .before .before .before .before .before .before .before .before .before))
-needed-is c = let s = c .before .before .before .before .before .before .before .before .before .before .before .before in file-length (now (s .args .file)) (s .pre) (sizes-are s) (c .head-length .ensures .0) (c .before .extent-of .ensures .1)
+needed-is : (c : tie.After-head-length) → c .head-length .result + c .before .extent-of .result .bytes ≡ length (probe (c .before .before .before .before .before .before))
+needed-is c = let s = c .before .before .before .before .before .before in file-length (now (s .args .file)) (s .pre) (sizes-are s) (c .head-length .ensures .0) (c .before .extent-of .ensures .1)
 
 add-needed : tie.Need-add-needed
-add-needed c = let s = c .before .before .before .before .before .before .before .before .before .before .before .before .before in omega (arith, needed-is (c .before), compiled-length (now (s .args .file)) (task s .reads))
+add-needed c = let s = c .before .before .before .before .before .before .before in omega (arith, needed-is (c .before), compiled-length (now (s .args .file)) (task s .reads))
 
 returns : tie.Need-returns
 returns c =
-    let s = c .before .before .before .before .before .before .before .before .before .before .before .before .before .before in
+    let s = c .before .before .before .before .before .before .before .before in
     let r = compile-short (now (s .args .file)) (task s .reads) (now (s .args .out)) (needed-is (c .before .before)) (c .if1 .taken) in
     (sym (r .0), sym (r .1))
 
 -- there is room for it
-room : (c : tie.Else1) → let s = c .before .before .before .before .before .before .before .before .before .before .before .before .before .before in length (probe s) ≤ length (now (s .args .out))
+room : (c : tie.Else1) → let s = c .before .before .before .before .before .before .before .before in length (probe s) ≤ length (now (s .args .out))
 room c = omega (arith, needed-is (c .before .before), c .if1 .left)
 
 put-head-requires : tie.Need-put-head-requires
 put-head-requires c κs =
-    let s = c .before .before .before .before .before .before .before .before .before .before .before .before .before .before .before in
+    let s = c .before .before .before .before .before .before .before .before .before in
     let f = now (s .args .file) in
     let r = task s .reads in
     let count = c .before .before .before .before .extent-of .ensures .0 in (
-      (begins s .variables, limits s .1, omega (arith, count, ap length (steps-in-place f (s .pre) (sizes-are s)), steps-most (task s .task) (task-wf f r) (task-limits f r)), goal-stands f (s .pre)),
-      ((λ a l. weighs f (actions-stood f (s .pre) (sizes-are s) a l) (noted s a l)), front-room f (s .pre) (sizes-are s) count (room (c .before))),
+      (begins s .variables, begins s .actions, omega (arith, count, ap length (steps-in-place f (s .pre) (sizes-are s)), steps-most (task s .task) (task-wf f r) (task-limits f r)), goal-stands f (s .pre)),
+      ((λ a l. weighs f (stood s a l) (s .pre .fronts .incoming a l)), front-room f (s .pre) (sizes-are s) count (room (c .before))),
     )
 
 -- the steps begin within the buffer
 inside : (c : tie.After-put-head) → c .put-head .result ≤ length (c .put-head .last .1 .1 .1 .1 .1 .0)
-inside c = let s = c .before .before .before .before .before .before .before .before .before .before .before .before .before .before .before .before in front-inside (now (s .args .file)) (s .pre) (sizes-are s) (c .before .before .before .before .before .extent-of .ensures .0) (room (c .before .before)) (c .put-head .ensures)
+inside c = let s = c .before .before .before .before .before .before .before .before .before .before in front-inside (now (s .args .file)) (s .pre) (sizes-are s) (c .before .before .before .before .before .extent-of .ensures .0) (room (c .before .before)) (c .put-head .ensures)
 
 put-actions-requires : tie.Need-put-actions-requires
 put-actions-requires c κs =
-    let s = c .before .before .before .before .before .before .before .before .before .before .before .before .before .before .before .before .before .before .before in
+    let s = c .before .before .before .before .before .before .before .before .before .before .before .before .before in
     let f = now (s .args .file) in
-    ((limits s .0, limits s .1, effects-noted f (s .pre) (begins s .actions)), ((actions-stood f (s .pre) (sizes-are s), noted s), steps-room f (s .pre) (sizes-are s) (c .before .before .before .before .before .before .before .before .extent-of .ensures .0) (room (c .before .before .before .before .before)) (c .before .before .before .put-head .ensures)))
+    ((few s, begins s .actions, s .pre .fronts), (stood s, steps-room f (s .pre) (sizes-are s) (c .before .before .before .before .before .before .before .before .extent-of .ensures .0) (room (c .before .before .before .before .before)) (c .before .before .before .put-head .ensures)))
 
 -- the file is written
-wrote : (c : tie.After-put-actions) → let s = c .before .before .before .before .before .before .before .before .before .before .before .before .before .before .before .before .before .before .before .before in let front = c .before .before .before .before .put-head in Wrote (probe s) (now (s .args .out)) (putMid (front .result) (length (front .last .1 .1 .1 .1 .1 .0) - front .result) (front .last .1 .1 .1 .1 .1 .0) (c .put-actions .last .1 .1 .1 .1 .1 .1 .1 .0)) (front .result + c .put-actions .result)
-wrote c = let s = c .before .before .before .before .before .before .before .before .before .before .before .before .before .before .before .before .before .before .before .before in file-wrote (now (s .args .file)) (s .pre) (sizes-are s) (c .before .before .before .before .before .before .before .before .before .extent-of .ensures .0) (room (c .before .before .before .before .before .before)) (c .before .before .before .before .put-head .ensures) (c .put-actions .ensures)
+wrote : (c : tie.After-put-actions) → let s = c .before .before .before .before .before .before .before .before .before .before .before .before .before .before in let front = c .before .before .before .before .put-head in Wrote (probe s) (now (s .args .out)) (putMid (front .result) (length (front .last .1 .1 .1 .1 .1 .0) - front .result) (front .last .1 .1 .1 .1 .1 .0) (c .put-actions .last .1 .1 .1 .1 .0)) (front .result + c .put-actions .result)
+wrote c = let s = c .before .before .before .before .before .before .before .before .before .before .before .before .before .before in file-wrote (now (s .args .file)) (s .pre) (sizes-are s) (c .before .before .before .before .before .before .before .before .before .extent-of .ensures .0) (room (c .before .before .before .before .before .before)) (c .before .before .before .before .put-head .ensures) (c .put-actions .ensures)
 
 returns-2 : tie.Need-returns-2
 returns-2 c =
-    let s = c .before .before .before .before .before .before .before .before .before .before .before .before .before .before .before .before .before .before .before .before .before .before in
+    let s = c .before .before .before .before .before .before .before .before .before .before .before .before .before .before .before .before in
     let r = compile-wrote (now (s .args .file)) (task s .reads) (room (c .before .before .before .before .before .before .before .before)) (wrote (c .before .before)) in
     (sym (r .0), sym (r .1))
 
@@ -109,24 +101,10 @@ pub compile-in-spec : {M : Type 1} → statement M
 compile-in-spec =
     tie.close
     (tie.spec
-    (λ c. sym (c .before .before .before .before .pre .starts-long))
+    (λ c. omega (arith, begins (c .before .before .before) .variables))
     (λ c. search needs)
     (λ c. search needs)
-    (λ c. omega (arith, row-long _ (now (c .before .before .before .before .args .row)) (c .before .before .before .before .pre)))
-    (λ c. search needs)
-    (λ c. search needs)
-    (λ c. omega (arith, row-long _ (now (c .before .before .before .before .before .args .row)) (c .before .before .before .before .before .pre)))
-    (λ c. omega (arith, begins (c .before .before .before .before .before .before) .variables))
-    (λ c. search needs)
-    (λ c. search needs)
-    (λ c. omega (arith, begins (c .before .before .before .before .before .before) .fits))
-    (λ c. sym (starts-long (c .before .before .before .before .before .before .before .before)))
-    (λ c. search needs)
-    (λ c. search needs)
-    (λ c. omega (arith, c .before .before .before .before .before .before .before .before .pre .starts-long))
-    (λ c. search needs)
-    (λ c. search needs)
-    (λ c. omega (arith, c .before .before .before .before .before .before .before .before .before .pre .starts-long))
+    (λ c. omega (arith, begins (c .before .before .before) .fits))
     extent-of-requires
     head-length-requires
     add-needed
@@ -136,6 +114,6 @@ compile-in-spec =
     (λ c. inside (c .before .before))
     (λ c. search needs)
     put-actions-requires
-    (λ c. let s = c .before .before .before .before .before .before .before .before .before .before .before .before .before .before .before .before .before .before .before .before .before .before in omega (arith, wrote (c .before .before) .count, compiled-length (now (s .args .file)) (task s .reads)))
+    (λ c. let s = c .before .before .before .before .before .before .before .before .before .before .before .before .before .before .before .before in omega (arith, wrote (c .before .before) .count, compiled-length (now (s .args .file)) (task s .reads)))
     (λ c. search needs)
     returns-2)
