@@ -11,7 +11,7 @@ use borrow.Rule.Slice.PartMut.{putMid}
 use Rattle.facts.specs.Lists.{total, At}
 use Rattle.facts.specs.ListLaws.{look, at-length}
 use Rattle.facts.specs.Read.{Read, accepted, refused, _>>=_}
-use Rattle.facts.specs.ReadLaws.{not-refused, through, not-made, bind-assoc}
+use Rattle.facts.specs.ReadLaws.{through, not-made, bind-assoc}
 use Rattle.facts.specs.Partial.{Partial, holds, apply, partialAt, pastPartial}
 use Rattle.facts.specs.PartialLaws.{apply-inside}
 use Rattle.facts.specs.State.{Inside}
@@ -22,9 +22,10 @@ use Rattle.taskfile.specs.Task.{Action, Task, Walk, maxList, taskSum, Plan, WfA
 use Rattle.taskfile.specs.TaskFile.{readTask, checkTask, runTask}
 use Rattle.taskfile.specs.TaskReadLaws.{task-wf, task-limits}
 use Rattle.taskfile.specs.TaskLaws.{task-plan}
-use Rattle.taskfile.specs.Index.{Index, Ready}
-use Rattle.taskfile.specs.WalkInPlace.{incomingPlace, nodeCount, walkAt, performBy, performAt}
-use Rattle.taskfile.specs.AnswerLaws.{there as task-there}
+use Rattle.taskfile.specs.Index.{Ready}
+use Rattle.taskfile.specs.Row.{firstsFrom, ownFrom}
+use Rattle.taskfile.specs.WalkInPlace.{nodeCount, walkAt, performBy, performAt}
+use Rattle.taskfile.specs.AnswerLaws.{there as task-there, starts}
 use Rattle.compilation.specs.Compile.{stepCount}
 use Rattle.taskfile.specs.PartsInPlace.{actionIn, actionsIn, Tested}
 use Rattle.taskfile.specs.PartsInPlaceLaws.{reads, actions-stood, actions-in-place}
@@ -34,9 +35,11 @@ use Rattle.plans.specs.Carry.{actionList, expandFrom, expand}
 use Rattle.plans.specs.ListLaws.{total-take}
 use Rattle.plans.specs.LengthLaws.{expand-limit}
 use Rattle.carry.specs.CarryFile.{expanded}
-use Rattle.numbering.specs.InPlace.{Edges, Numbered, Writable, maxEntries, expansion, WroteIf, Prepared}
-use Rattle.numbering.specs.NumberLaws.{actions-at, total-next, actionsOf, actions-are, steps-few, all-tested}
+use Rattle.numbering.specs.InPlace.{Edges, Numbered, Writable, maxEntries, expansion, listedSum, WroteIf, Prepared}
+use Rattle.numbering.specs.NumberLaws.{actions-at, total-next, actions-are, steps-few, all-tested}
 use Rattle.carry.specs.AnswerLaws.{entry-room, entry-more}
+use Rattle.carry.specs.declared.Carried.{Carried}
+use Rattle.carry.specs.declared.Carried.the-variants.{List as Listed, Refused as NotCarried}
 use Rattle.carry.specs.SameSumLaws.{over-front, expanded-plan, fits-inv}
 
 -- The state after what applied.
@@ -51,30 +54,30 @@ attempt-state pre eff cost s {e} {c} h = go (holds pre s) refl
 
 -- The action of entry i of a list stands at an offset, with its own nodes, the variables that they test and the first edges of these, with the number `first` of its start and the number `next` after its end: its
 -- entries come next in the state s.
-pub record Entry (f sizes actions firsts nodes list s : List ℕ) (i at : ℕ) (own row : List ℕ) (first next : ℕ) : Type 0 where
+pub record Entry (f sizes : List ℕ) (count : ℕ) (row list s : List ℕ) (i at : ℕ) (own own-edges : List ℕ) (first next : ℕ) : Type 0 where
   pub tested : Tested f own (nodeCount f at)
   pub well-formed : WfAction sizes (actionIn f sizes at own)
-  pub edges : Edges (actionIn f sizes at own .nodes) (1 + first) row
+  pub edges : Edges (actionIn f sizes at own .nodes) (1 + first) own-edges
   pub next-is : next ≡ first + stepCount (actionIn f sizes at own)
   pub few : next ≤ 576
-  pub cut : Cut (expandFrom (actionsIn f sizes actions firsts nodes 0 (length actions)) (drop i list) s) (actionList first (actionIn f sizes at own) s)
-      (expandFrom (actionsIn f sizes actions firsts nodes 0 (length actions)) (drop (i + 1) list) (apply (partialAt f (pastPartial f at)) s))
+  pub cut : Cut (expandFrom (actionsIn f sizes row 0 count) (drop i list) s) (actionList first (actionIn f sizes at own) s)
+      (expandFrom (actionsIn f sizes row 0 count) (drop (i + 1) list) (apply (partialAt f (pastPartial f at)) s))
 
-module _ {f sizes actions incoming firsts nodes first-step first-edge : List ℕ} (p : Prepared f sizes actions incoming firsts nodes first-step first-edge) where
+module _ {f sizes : List ℕ} {count : ℕ} {row first-step first-edge : List ℕ} (p : Prepared f sizes count row first-step first-edge) where
   abbrev actionsHere : List Action
-  actionsHere = actionsIn f sizes actions firsts nodes 0 (length actions)
+  actionsHere = actionsIn f sizes row 0 count
 
   -- There is room for all entries.
   pub list-room : (list s : List ℕ) → Inside sizes s → {room : ℕ} → maxEntries * length list ≤ room → length (expandFrom actionsHere list s) ≤ room
   list-room list s inside h = omega (arith, expand-limit {sizes = sizes} {actions = actionsHere} (λ a x h. p .well-formed h) (p .variables) list s inside)
 
   -- Each entry that is the number of an action has it.
-  pub entry-there : {list : List ℕ} (s : List ℕ) {i at : ℕ} {own row : List ℕ} {first next : ℕ} → i < length list → getD list i 0 < length actions
-      → at ≡ getD actions (getD list i 0) 0 → own ≡ drop (getD firsts (getD list i 0) 0) nodes → row ≡ drop (getD firsts (getD list i 0) 0) first-edge
-      → first ≡ getD first-step (getD list i 0) 0 → next ≡ getD first-step (getD list i 0 + 1) 0 → Entry f sizes actions firsts nodes list s i at own row first next
+  pub entry-there : {list : List ℕ} (s : List ℕ) {i at : ℕ} {own own-edges : List ℕ} {first next : ℕ} → i < length list → getD list i 0 < count
+      → at ≡ getD row (getD list i 0) 0 → own ≡ drop (ownFrom row (getD list i 0)) row → own-edges ≡ drop (getD row (firstsFrom + getD list i 0) 0) first-edge
+      → first ≡ getD first-step (getD list i 0) 0 → next ≡ getD first-step (getD list i 0 + 1) 0 → Entry f sizes count row list s i at own own-edges first next
   entry-there {list} s {i} l known h o r n m =
       let a = getD list i 0 in
-      let element = actions-at f sizes actions firsts nodes a (length actions) known in
+      let element = actions-at f sizes row a count known in
       let after = m ∙ ap (λ (k : ℕ). getD first-step k 0) (add-one a) ∙ p .numbered .numbers (suc a) (omega (arith, at-length element)) in
       rw (h, o, r, n ∙ p .numbered .numbers a (omega (arith, at-length element)), after)
       (record {
@@ -91,9 +94,9 @@ applied-state : (f : List ℕ) (at : ℕ) (own s : List ℕ) (measure : Walk →
 unfolding performBy
 applied-state f at own s measure {after} {c} h = attempt-state (partialAt f at) (partialAt f (pastPartial f at)) (measure (walkAt f at own s)) s (sym h)
 
-module _ {f sizes actions firsts nodes list s : List ℕ} {i at : ℕ} {own row : List ℕ} {first next : ℕ} (e : Entry f sizes actions firsts nodes list s i at own row first next) where
+module _ {f sizes : List ℕ} {count : ℕ} {row list s : List ℕ} {i at : ℕ} {own own-edges : List ℕ} {first next : ℕ} (e : Entry f sizes count row list s i at own own-edges first next) where
   -- Its entries can be written.
-  pub entry-writable : Inside sizes s → {room : ℕ} → length (actionList first (actionIn f sizes at own) s) ≤ room → Writable sizes (actionIn f sizes at own .nodes) row first next s room
+  pub entry-writable : Inside sizes s → {room : ℕ} → length (actionList first (actionIn f sizes at own) s) ≤ room → Writable sizes (actionIn f sizes at own .nodes) own-edges first next s room
   entry-writable inside fits = record { well-formed = e .well-formed .nodes; inside = inside; edges = e .edges; next-is = e .next-is; few = e .few; fits = fits }
 
   module _ {after : List ℕ} {c : ℕ} (h : went after c ≡ performAt f at own s) where
@@ -102,18 +105,14 @@ module _ {f sizes actions firsts nodes list s : List ℕ} {i at : ℕ} {own row 
     entry-inside inside = rw (applied-state f at own s (λ w. w .cost) h) (apply-inside (partialAt f (pastPartial f at)) sizes s (e .well-formed .eff .values) inside)
 
     -- Once its entries are written, those of the later entries are left.
-    pub entry-next : {whole before now last : List ℕ} {written k : ℕ} → Going whole (expandFrom (actionsIn f sizes actions firsts nodes 0 (length actions)) (drop i list) s) before now written → length whole ≤ length before
+    pub entry-next : {whole before now last : List ℕ} {written k : ℕ} → Going whole (expandFrom (actionsIn f sizes row 0 count) (drop i list) s) before now written → length whole ≤ length before
         → Wrote (actionList first (actionIn f sizes at own) s) (take (length now - written) (drop written now)) last k
-        → Going whole (expandFrom (actionsIn f sizes actions firsts nodes 0 (length actions)) (drop (i + 1) list) after) before (putMid written (length now - written) now last) (written + k)
+        → Going whole (expandFrom (actionsIn f sizes row 0 count) (drop (i + 1) list) after) before (putMid written (length now - written) now last) (written + k)
     entry-next going fits w = rw (applied-state f at own s (λ w. w .cost) h) (going-more going fits (e .cut) w)
 
 -- No more is written than there is.
 pub going-few : {whole rest before now : List ℕ} {at : ℕ} → Going whole rest before now at → at ≤ length whole
 going-few {rest = rest} g = omega (arith, g .wrote .count, ap length (g .left) ∙ length-append (g .done) rest)
-
--- A list that is refused has nothing to be written.
-pub wrote-not : {n p : ℕ} {entries before now : List ℕ} {k : ℕ} → WroteIf (refused n p) entries before now k
-wrote-not = record { wrote = λ h. absurd (not-refused h) }
 
 -- Past the last entry nothing is left.
 pub entries-none : (xs : List Action) (list s : List ℕ) {i : ℕ} → length list ≤ i → expandFrom xs (drop i list) s ≡ []
@@ -148,7 +147,7 @@ module _ (f : List ℕ) {t : Task} (h : readTask f ≡ accepted t) (list : List 
       let wf = task-wf f h in
       rw (expansion-is (ran-plan r)) (expand-limit {sizes = t .sizes} {actions = t .actions} (λ a x o. wf .actions o) (task-limits f h .variables) list (t .init) (wf .init))
 
-module _ (f : List ℕ) {i : Index} (ready : Ready f i) where
+module _ (f : List ℕ) {variables count : ℕ} {row : List ℕ} (ready : Ready f variables count row) where
   -- the file's task
   abbrev t : Task
   t = task-there f ready .task
@@ -158,13 +157,12 @@ module _ (f : List ℕ) {i : Index} (ready : Ready f i) where
   init-inside e s = rw (e, s) (task-wf f (reads f ready) .init)
 
   -- All is prepared to write expansions.
-  pub prepared : {sizes incoming first-step first-edge : List ℕ} → sizes ≡ t .sizes → ((a : ℕ) → a < length (take (i .actions) (i .starts)) → getD incoming a 0 ≡ incomingPlace f (getD (take (i .actions) (i .starts)) a 0))
-      → Numbered (actionsOf f ready sizes) (i .firsts) first-step first-edge
-      → Prepared f sizes (take (i .actions) (i .starts)) incoming (i .firsts) (i .nodes) first-step first-edge
-  prepared {sizes} e noted n =
+  pub prepared : {sizes first-step first-edge : List ℕ} → sizes ≡ t .sizes → Numbered (actionsIn f sizes row 0 count) row first-step first-edge → Prepared f sizes count row first-step first-edge
+  prepared {sizes} e n =
       let same = actions-are f ready e in
       record {
-        weighs = λ a l. weighs f (actions-stood f ready e a l) (noted a l);
+        long = omega (arith, ready .long, starts f ready .actions);
+        weighs = λ a l. weighs f (actions-stood f ready e a l) (ready .fronts .incoming a l);
         tested = all-tested f ready;
         variables = omega (arith, ap length e, task-limits f (reads f ready) .variables);
         well-formed = λ {a} {x} h. subst (λ (ds : List ℕ). WfAction ds x) (sym e) (task-wf f (reads f ready) .actions (subst (λ (xs : List Action). At xs a x) same h));
@@ -172,10 +170,16 @@ module _ (f : List ℕ) {i : Index} (ready : Ready f i) where
         few = omega (arith, ap (total stepCount) same, steps-few f ready);
       }
 
-  -- What is written from the initial state on is the expansion.
-  pub entries-are : (list : List ℕ) {sizes state : List ℕ} {c : ℕ} → runTask f list ≡ accepted c → sizes ≡ t .sizes → state ≡ t .init → expandFrom (actionsOf f ready sizes) list state ≡ expansion f list
-  unfolding expand
-  entries-are list r e s = rw (e, s, actions-in-place f ready) (sym (expansion-is f (reads f ready) list (ran-plan f (reads f ready) list r)))
+  module _ (list : List ℕ) {sizes state : List ℕ} (e : sizes ≡ t .sizes) (s : state ≡ t .init) where
+    -- What is written from the initial state on is the expansion.
+    entries-are : {c : ℕ} → runTask f list ≡ accepted c → expandFrom (actionsIn f sizes row 0 count) list state ≡ expansion f list
+    unfolding expand
+    entries-are r = rw (e, s, actions-in-place f ready) (sym (expansion-is f (reads f ready) list (ran-plan f (reads f ready) list r)))
+
+    -- Whatever is answered.
+    pub wrote-expansion : (before now : List ℕ) (r : Carried) → listedSum r ≡ runTask f list → WroteIf r (expandFrom (actionsIn f sizes row 0 count) list state) before now → WroteIf r (expansion f list) before now
+    wrote-expansion before now (Listed n sum) h w = subst (λ (es : List ℕ). Wrote es before now n) (entries-are (sym h)) w
+    wrote-expansion before now (NotCarried why) h w = tt
 
 -- ---- the ways in which the operation can go
 

@@ -5,6 +5,7 @@ use mathlib.Core.List.{List, [], _∷_}
 use mathlib.Core.Option.{none, some}
 use lib.Dec.{ltb}
 use lib.ListN.{length, getD, set, take, drop}
+use Rattle.facts.specs.Refusal.{number, place}
 use Rattle.facts.specs.Read.{Read, accepted, check, _>>=_, refused}
 use Rattle.facts.specs.State.{Inside}
 use Rattle.facts.specs.Write.{Wrote}
@@ -16,19 +17,22 @@ use Rattle.compilation.specs.Compile.{probeOf, edgeCount, stepCount}
 use Rattle.step_writer.specs.InPlace.{Weighs}
 use Rattle.plans.specs.Carry.{firstStep, pathSteps, startedBy}
 use Rattle.facts.specs.Lists.{total, At}
+use Rattle.taskfile.specs.Row.{incomingFrom, firstsFrom, ownFrom}
 use Rattle.taskfile.specs.InPlace.{nodesBefore}
 use Rattle.taskfile.specs.WalkInPlace.{nodeCount}
 use Rattle.taskfile.specs.PartsInPlace.{actionsIn, Tested}
 use Rattle.carry.specs.CarryFile.{expanded}
+use Rattle.carry.specs.declared.Carried.{Carried}
+use Rattle.carry.specs.declared.Carried.the-variants.{List as Listed, Refused as NotCarried}
 
 -- the variables that the nodes of each action test are noted behind their offsets
-pub record AllTested (f actions firsts nodes : List ℕ) : Type 0 where
-  pub own : (a : ℕ) → a < length actions → Tested f (drop (getD firsts a 0) nodes) (nodeCount f (getD actions a 0))
+pub record AllTested (f : List ℕ) (count : ℕ) (row : List ℕ) : Type 0 where
+  pub own : (a : ℕ) → a < count → Tested f (drop (ownFrom row a) row) (nodeCount f (getD row a 0))
 
--- There are at most 576 steps, `firsts` has for each action how many nodes the actions before it have, and there is room for so many nodes.
-pub record Rows (actions : List Action) (firsts : List ℕ) (room : ℕ) : Type 0 where
+-- There are at most 576 steps, the row has for each action how many nodes the actions before it have, and there is room for so many nodes.
+pub record Rows (actions : List Action) (row : List ℕ) (room : ℕ) : Type 0 where
   pub few : total stepCount actions ≤ 576
-  pub first-is : {a : ℕ} {x : Action} → At actions a x → getD firsts a 0 ≡ nodesBefore actions a
+  pub first-is : {a : ℕ} {x : Action} → At actions a x → getD row (firstsFrom + a) 0 ≡ nodesBefore actions a
   pub fits : total (λ x. length (x .nodes)) actions ≤ room
 
 -- `first-edge` has the number of the first edge of each of these nodes, where `from` is the first node's
@@ -37,9 +41,9 @@ pub record Edges (nodes : List Node) (from : ℕ) (first-edge : List ℕ) : Type
 
 -- `first-step` has the number of each action's start, and past the last the number of all steps; `first-edge` has, from each action's first node on, the number of the first
 -- edge of each of its nodes
-pub record Numbered (actions : List Action) (firsts first-step first-edge : List ℕ) : Type 0 where
+pub record Numbered (actions : List Action) (row first-step first-edge : List ℕ) : Type 0 where
   pub numbers : (a : ℕ) → a ≤ length actions → getD first-step a 0 ≡ firstStep actions a
-  pub edges : {a : ℕ} {x : Action} → At actions a x → Edges (x .nodes) (1 + firstStep actions a) (drop (getD firsts a 0) first-edge)
+  pub edges : {a : ℕ} {x : Action} → At actions a x → Edges (x .nodes) (1 + firstStep actions a) (drop (getD row (firstsFrom + a) 0) first-edge)
 
 -- `action-of` has at the number of each start 1 and the number of its action, and at every other number 0
 pub record Noted (actions : List Action) (action-of : List ℕ) : Type 0 where
@@ -103,15 +107,22 @@ maxEntries = 26
 unfoldable pub expansion : List ℕ → List ℕ → List ℕ
 expansion f list = elim (expanded f list) [ accepted c ↦ c .0 | refused n p ↦ [] ]
 
--- where the answer is a sum, these entries were written at the front of a buffer, which was `before` and is `now`
-pub record WroteIf (answer : Read ℕ) (entries before now : List ℕ) (n : ℕ) : Type 0 where
-  pub wrote : {c : ℕ} → answer ≡ accepted c → Wrote entries before now n
+-- the sum of the list that was written
+abbrev pub listedSum : Carried → Read ℕ
+listedSum (Listed n sum) = accepted sum
+listedSum (NotCarried why) = refused (number why) (place why)
 
--- what the probe list of a list of actions is written from: each action is well-formed, its incoming weight and the variables that its nodes test are noted, the steps have their numbers, and there are at most 24 variables and 576 steps
-pub record Prepared (f sizes actions incoming firsts nodes first-step first-edge : List ℕ) : Type 0 where
-  pub weighs : (a : ℕ) → a < length actions → Weighs f (getD actions a 0) (getD incoming a 0)
-  pub tested : AllTested f actions firsts nodes
+-- where one was, these entries are at the front of a buffer, which was `before` and is `now`
+abbrev pub WroteIf : Carried → List ℕ → List ℕ → List ℕ → Type 0
+WroteIf (Listed n sum) entries before now = Wrote entries before now n
+WroteIf (NotCarried why) entries before now = Unit {0}
+
+-- what the probe list of a list of actions is written from: the row has each action, each is well-formed, its incoming weight and the variables that its nodes test are noted, the steps have their numbers, and there are at most 24 variables and 576 steps
+pub record Prepared (f sizes : List ℕ) (count : ℕ) (row first-step first-edge : List ℕ) : Type 0 where
+  pub long : incomingFrom + count ≤ length row
+  pub weighs : (a : ℕ) → a < count → Weighs f (getD row a 0) (getD row (incomingFrom + a) 0)
+  pub tested : AllTested f count row
   pub variables : length sizes ≤ maxVariables
-  pub well-formed : {a : ℕ} {x : Action} → At (actionsIn f sizes actions firsts nodes 0 (length actions)) a x → WfAction sizes x
-  pub numbered : Numbered (actionsIn f sizes actions firsts nodes 0 (length actions)) firsts first-step first-edge
-  pub few : total stepCount (actionsIn f sizes actions firsts nodes 0 (length actions)) ≤ 576
+  pub well-formed : {a : ℕ} {x : Action} → At (actionsIn f sizes row 0 count) a x → WfAction sizes x
+  pub numbered : Numbered (actionsIn f sizes row 0 count) row first-step first-edge
+  pub few : total stepCount (actionsIn f sizes row 0 count) ≤ 576

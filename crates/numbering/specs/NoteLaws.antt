@@ -13,7 +13,7 @@ use borrow.Author.Tests.{eqb-true, eqb-false}
 use Rattle.facts.specs.Read.{_>>=_}
 use Rattle.facts.specs.Lists.{total}
 use Rattle.taskfile.specs.Task.{Action, Task}
-use Rattle.taskfile.specs.Index.{Index, Ready}
+use Rattle.taskfile.specs.Index.{Ready}
 use Rattle.taskfile.specs.TaskReadLaws.{task-wf, task-limits}
 use Rattle.taskfile.specs.AnswerLaws.{there as task-there}
 use Rattle.compilation.specs.Compile.{stepCount}
@@ -103,29 +103,25 @@ note-last first-step action-of a l = rw (drop-of-length-le first-step l)
 
 -- ---- the starts of an accepted file, by its index
 
-module _ (f : List ℕ) {i : Index} (ready : Ready f i) where
+module _ (f : List ℕ) {variables count : ℕ} {row : List ℕ} (ready : Ready f variables count row) where
   -- its task
   abbrev t : Task
   t = task-there f ready .task
 
-  -- the offset of each action
-  abbrev begins : List ℕ
-  begins = take (i .actions) (i .starts)
-
-  module _ {sizes first-step first-edge : List ℕ} (e : sizes ≡ t .sizes) (n : Numbered (actionsIn f sizes begins (i .firsts) (i .nodes) 0 (length begins)) (i .firsts) first-step first-edge) (long : i .actions ≤ length first-step) where
+  module _ {sizes first-step first-edge : List ℕ} (e : sizes ≡ t .sizes) (n : Numbered (actionsIn f sizes row 0 count) row first-step first-edge) (long : count ≤ length first-step) where
     -- the number of each action's start
     abbrev starts : List ℕ
-    starts = take (i .actions) first-step
+    starts = take count first-step
 
     -- There is one for each action.
     starts-long : length starts ≡ length (t .actions)
-    starts-long = length-take-le (i .actions) first-step long ∙ sym (task-there f ready .actions)
+    starts-long = length-take-le count first-step long ∙ sym (task-there f ready .actions)
 
     -- It is as many as the steps of the actions before it.
     start-at : (a : ℕ) → a < length (t .actions) → getD starts a 0 ≡ firstStep (t .actions) a
     start-at a h =
-        let same = ap (λ (ds : List ℕ). actionsIn f ds begins (i .firsts) (i .nodes) 0 (length begins)) e ∙ actions-in-place f ready in
-        getD-take (i .actions) first-step a 0 (omega (arith, task-there f ready .actions)) ∙ subst (λ (actions : List Action). Numbered actions (i .firsts) first-step first-edge) same n .numbers a (omega arith)
+        let same = ap (λ (ds : List ℕ). actionsIn f ds row 0 count) e ∙ actions-in-place f ready in
+        getD-take count first-step a 0 (omega (arith, task-there f ready .actions)) ∙ subst (λ (actions : List Action). Numbered actions row first-step first-edge) same n .numbers a (omega arith)
 
     -- It is one of 576 numbers.
     pub start-below : (a : ℕ) → a < length starts → getD starts a 0 < 576

@@ -12,14 +12,15 @@ use Rattle.facts.specs.Lists.{total, At, here, there}
 use Rattle.facts.specs.ListLaws.{at-length}
 use Rattle.taskfile.specs.Task.{Node, Action, Task, maxNodes, WfAction}
 use Rattle.taskfile.specs.TaskReadLaws.{task-wf, task-limits}
-use Rattle.taskfile.specs.Index.{Index, Ready}
+use Rattle.taskfile.specs.Index.{Ready}
 use Rattle.taskfile.specs.AnswerLaws.{there as task-there}
 use Rattle.taskfile.specs.MoveInPlaceLaws.{own-nodes}
+use Rattle.taskfile.specs.Row.{firstsFrom, ownFrom}
 use Rattle.taskfile.specs.WalkInPlace.{nodeCount}
 use Rattle.compilation.specs.Compile.{edgeCount, stepCount}
 use Rattle.compilation.specs.StepLaws.{steps-length, steps-most}
 use Rattle.taskfile.specs.PartsInPlace.{nodeIn, nodesIn, actionIn, actionsIn, Tested}
-use Rattle.taskfile.specs.PartsInPlaceLaws.{reads, located, actions-stood, actions-in-place}
+use Rattle.taskfile.specs.PartsInPlaceLaws.{reads, actions-stood, actions-in-place}
 use Rattle.probe_writer.specs.InPlaceLaws.{edges-long}
 use Rattle.plans.specs.Carry.{firstStep}
 use Rattle.plans.specs.ListLaws.{total-take, at-same}
@@ -27,20 +28,20 @@ use Rattle.numbering.specs.InPlace.{AllTested, Rows, Edges, Numbered}
 
 -- ---- actions in place, by number
 
-module _ (f sizes actions firsts nodes : List ℕ) where
+module _ (f sizes row : List ℕ) where
   -- As many actions as are asked for.
-  pub actions-long : (a count : ℕ) → length (actionsIn f sizes actions firsts nodes a count) ≡ count
+  pub actions-long : (a count : ℕ) → length (actionsIn f sizes row a count) ≡ count
   actions-long a zero = refl
   actions-long a (suc count) = ap suc (actions-long (suc a) count)
 
   -- The action of each number, from number a on.
-  actions-from : (a count j k : ℕ) → j < count → k ≡ a + j → At (actionsIn f sizes actions firsts nodes a count) j (actionIn f sizes (getD actions k 0) (drop (getD firsts k 0) nodes))
+  actions-from : (a count j k : ℕ) → j < count → k ≡ a + j → At (actionsIn f sizes row a count) j (actionIn f sizes (getD row k 0) (drop (ownFrom row k) row))
   actions-from a zero j k h e = absurd (omega arith)
   actions-from a (suc count) zero k h e = let same : a ≡ k = omega arith in rw same here
   actions-from a (suc count) (suc j) k h e = there (actions-from (suc a) count j k (omega arith) (omega arith))
 
   -- The same from number 0 on.
-  pub actions-at : (a count : ℕ) → a < count → At (actionsIn f sizes actions firsts nodes 0 count) a (actionIn f sizes (getD actions a 0) (drop (getD firsts a 0) nodes))
+  pub actions-at : (a count : ℕ) → a < count → At (actionsIn f sizes row 0 count) a (actionIn f sizes (getD row a 0) (drop (ownFrom row a) row))
   actions-at a count h = actions-from 0 count a a h (omega arith)
 
 -- The nodes of the action at an offset, as they are lent.
@@ -127,17 +128,17 @@ module _ (xs ys : List ℕ) (a k : ℕ) (h : a ≤ length xs) where
 -- ---- all actions
 
 -- The steps of the actions before a are numbered, and `next` is the number of a's start.
-pub record Numbering (actions : List Action) (firsts before-step before-edge first-step first-edge : List ℕ) (next a : ℕ) : Type 0 where
+pub record Numbering (actions : List Action) (row before-step before-edge first-step first-edge : List ℕ) (next a : ℕ) : Type 0 where
   pub within : a ≤ length actions
   pub numbers : (b : ℕ) → b < a → getD first-step b 0 ≡ firstStep actions b
-  pub edges : {b : ℕ} {x : Action} → At actions b x → b < a → Edges (x .nodes) (1 + firstStep actions b) (drop (getD firsts b 0) first-edge)
+  pub edges : {b : ℕ} {x : Action} → At actions b x → b < a → Edges (x .nodes) (1 + firstStep actions b) (drop (getD row (firstsFrom + b) 0) first-edge)
   pub next-is : next ≡ firstStep actions a
   pub same-step : length first-step ≡ length before-step
   pub same-edge : length first-edge ≡ length before-edge
 
 -- At first none are.
-pub numbering-start : (actions : List Action) (firsts first-step first-edge : List ℕ) → Numbering actions firsts first-step first-edge first-step first-edge 0 0
-numbering-start actions firsts first-step first-edge = record {
+pub numbering-start : (actions : List Action) (row first-step first-edge : List ℕ) → Numbering actions row first-step first-edge first-step first-edge 0 0
+numbering-start actions row first-step first-edge = record {
   within = omega arith;
   numbers = λ b h. absurd (omega arith);
   edges = λ x h. absurd (omega arith);
@@ -146,7 +147,7 @@ numbering-start actions firsts first-step first-edge = record {
   same-edge = refl;
 }
 
-module _ {actions : List Action} {firsts before-step before-edge first-step first-edge : List ℕ} {next a : ℕ} (n : Numbering actions firsts before-step before-edge first-step first-edge next a) where
+module _ {actions : List Action} {row before-step before-edge first-step first-edge : List ℕ} {next a : ℕ} (n : Numbering actions row before-step before-edge first-step first-edge next a) where
   -- The number of a start is noted.
   noted : (b : ℕ) → a < length before-step → b ≤ a → getD (set first-step a next) b 0 ≡ firstStep actions b
   noted b room l =
@@ -156,55 +157,55 @@ module _ {actions : List Action} {firsts before-step before-edge first-step firs
       ]
 
   -- At last all are.
-  pub numbering-end : length actions ≤ a → a < length before-step → Numbered actions firsts (set first-step a next) first-edge
+  pub numbering-end : length actions ≤ a → a < length before-step → Numbered actions row (set first-step a next) first-edge
   numbering-end l room = record { numbers = λ b h. noted b room (omega (arith, n .within)); edges = λ x. n .edges x (omega (arith, at-length x)) }
 
-  module _ {x : Action} (h : At actions a x) (rows : Rows actions firsts (length before-edge)) where
+  module _ {x : Action} (h : At actions a x) (rows : Rows actions row (length before-edge)) where
     -- All steps have numbers of at most 576.
     pub numbering-small : next + stepCount x ≤ 576
     numbering-small = omega (arith, n .next-is, total-take stepCount h, rows .few)
 
     -- The row of its nodes.
-    pub row-is : {row : ℕ} → row ≡ min (getD firsts a 0) (length first-edge) → (row ≡ getD firsts a 0) × (row + length (x .nodes) ≤ length first-edge)
-    row-is {row} e =
+    pub row-is : {first : ℕ} → first ≡ min (getD row (firstsFrom + a) 0) (length first-edge) → (first ≡ getD row (firstsFrom + a) 0) × (first + length (x .nodes) ≤ length first-edge)
+    row-is e =
         let fits = total-take (λ (y : Action). length (y .nodes)) h in
         (omega (arith, rows .first-is h, fits, rows .fits, n .same-edge), omega (arith, rows .first-is h, fits, rows .fits, n .same-edge))
 
-    module _ (k : ℕ) (ys : List ℕ) {row : ℕ} (e : row ≡ min (getD firsts a 0) (length first-edge)) where
+    module _ (k : ℕ) (ys : List ℕ) {first : ℕ} (e : first ≡ min (getD row (firstsFrom + a) 0) (length first-edge)) where
       -- what was numbered stays
-      row-kept : {b : ℕ} {y : Action} → At actions b y → b < a → Edges (y .nodes) (1 + firstStep actions b) (drop (getD firsts b 0) (putMid row k first-edge ys))
+      row-kept : {b : ℕ} {y : Action} → At actions b y → b < a → Edges (y .nodes) (1 + firstStep actions b) (drop (getD row (firstsFrom + b) 0) (putMid first k first-edge ys))
       row-kept {b} {y} g l = record {
         number = λ j m.
             let apart = total-later (λ (z : Action). length (z .nodes)) a g l in
             let start = row-is e in
-            getD-drop (getD firsts b 0) (putMid row k first-edge ys) j 0
-            ∙ put-before first-edge ys row k (omega (arith, start .1)) (getD firsts b 0 + j) (omega (arith, apart, rows .first-is g, rows .first-is h, start .0))
-            ∙ sym (getD-drop (getD firsts b 0) first-edge j 0)
+            getD-drop (getD row (firstsFrom + b) 0) (putMid first k first-edge ys) j 0
+            ∙ put-before first-edge ys first k (omega (arith, start .1)) (getD row (firstsFrom + b) 0 + j) (omega (arith, apart, rows .first-is g, rows .first-is h, start .0))
+            ∙ sym (getD-drop (getD row (firstsFrom + b) 0) first-edge j 0)
             ∙ n .edges g l .number j m;
       }
 
       -- and the row of action a is new
-      row-new : length (x .nodes) ≤ length ys → Edges (x .nodes) (1 + next) ys → Edges (x .nodes) (1 + firstStep actions a) (drop (getD firsts a 0) (putMid row k first-edge ys))
+      row-new : length (x .nodes) ≤ length ys → Edges (x .nodes) (1 + next) ys → Edges (x .nodes) (1 + firstStep actions a) (drop (getD row (firstsFrom + a) 0) (putMid first k first-edge ys))
       row-new long new = record {
         number = λ j m.
             let start = row-is e in
-            getD-drop (getD firsts a 0) (putMid row k first-edge ys) j 0
-            ∙ ap (λ (i : ℕ). getD (putMid row k first-edge ys) (i + j) 0) (sym (start .0))
-            ∙ put-inside first-edge ys row k (omega (arith, start .1)) j (omega arith)
+            getD-drop (getD row (firstsFrom + a) 0) (putMid first k first-edge ys) j 0
+            ∙ ap (λ (i : ℕ). getD (putMid first k first-edge ys) (i + j) 0) (sym (start .0))
+            ∙ put-inside first-edge ys first k (omega (arith, start .1)) j (omega arith)
             ∙ new .number j m
             ∙ ap (λ (i : ℕ). 1 + i + total edgeCount (take j (x .nodes))) (n .next-is);
       }
 
       -- Then those of one more action are.
-      pub numbering-next : {last : ℕ} → a < length before-step → length (putMid row k first-edge ys) ≡ length first-edge → length (x .nodes) ≤ length ys
+      pub numbering-next : {last : ℕ} → a < length before-step → length (putMid first k first-edge ys) ≡ length first-edge → length (x .nodes) ≤ length ys
           → last ≡ 1 + next + total edgeCount (x .nodes) → Edges (x .nodes) (1 + next) ys
-          → Numbering actions firsts before-step before-edge (set first-step a next) (putMid row k first-edge ys) (1 + last) (a + 1)
+          → Numbering actions row before-step before-edge (set first-step a next) (putMid first k first-edge ys) (1 + last) (a + 1)
       numbering-next {last} room same long l new = record {
         within = omega (arith, at-length h);
         numbers = λ b m. noted b room (omega arith);
         edges = λ {b} {x = y} g m.
             elim (ℕ-discrete b a) [
-              | yes equal ↦ let other = subst (λ (i : ℕ). At actions i y) equal g in subst (λ (i : ℕ). Edges (y .nodes) (1 + firstStep actions i) (drop (getD firsts i 0) (putMid row k first-edge ys))) (sym equal) (subst (λ (z : Action). Edges (z .nodes) (1 + firstStep actions a) (drop (getD firsts a 0) (putMid row k first-edge ys))) (at-same h other refl) (row-new long new))
+              | yes equal ↦ let other = subst (λ (i : ℕ). At actions i y) equal g in subst (λ (i : ℕ). Edges (y .nodes) (1 + firstStep actions i) (drop (getD row (firstsFrom + i) 0) (putMid first k first-edge ys))) (sym equal) (subst (λ (z : Action). Edges (z .nodes) (1 + firstStep actions a) (drop (getD row (firstsFrom + a) 0) (putMid first k first-edge ys))) (at-same h other refl) (row-new long new))
               | no other ↦ row-kept g (omega arith)
             ];
         next-is = rw (add-one a) (omega (arith, n .next-is, l, total-next stepCount h));
@@ -214,17 +215,13 @@ module _ {actions : List Action} {firsts before-step before-edge first-step firs
 
 -- ---- the steps of an accepted file, by its index
 
-module _ (f : List ℕ) {i : Index} (ready : Ready f i) where
+module _ (f : List ℕ) {variables count : ℕ} {row : List ℕ} (ready : Ready f variables count row) where
   -- its task
   abbrev t : Task
   t = task-there f ready .task
 
-  -- the actions in place, with these domain sizes
-  abbrev pub actionsOf : List ℕ → List Action
-  actionsOf sizes = actionsIn f sizes (take (i .actions) (i .starts)) (i .firsts) (i .nodes) 0 (length (take (i .actions) (i .starts)))
-
-  -- They are the task's.
-  pub actions-are : {sizes : List ℕ} → sizes ≡ t .sizes → actionsOf sizes ≡ t .actions
+  -- The actions in place are the task's.
+  pub actions-are : {sizes : List ℕ} → sizes ≡ t .sizes → actionsIn f sizes row 0 count ≡ t .actions
   actions-are e = rw e (actions-in-place f ready)
 
   -- There are at most 576 steps.
@@ -232,18 +229,18 @@ module _ (f : List ℕ) {i : Index} (ready : Ready f i) where
   steps-few = omega (arith, steps-length t, steps-most t (task-wf f (reads f ready)) (task-limits f (reads f ready)))
 
   -- They can be numbered.
-  pub rows-there : {sizes : List ℕ} {room : ℕ} → sizes ≡ t .sizes → maxNodes ≤ room → Rows (actionsOf sizes) (i .firsts) room
+  pub rows-there : {sizes : List ℕ} {room : ℕ} → sizes ≡ t .sizes → maxNodes ≤ room → Rows (actionsIn f sizes row 0 count) row room
   rows-there {room = room} e l =
-      subst (λ (xs : List Action). Rows xs (i .firsts) room) (sym (actions-are e))
-      (record { few = steps-few; first-is = λ {a} {x} h. located f ready .first-is t (reads f ready) a x h; fits = omega (arith, task-limits f (reads f ready) .nodes) })
+      subst (λ (xs : List Action). Rows xs row room) (sym (actions-are e))
+      (record { few = steps-few; first-is = λ {a} {x} h. ready .located .first-is t (reads f ready) a x h; fits = omega (arith, task-limits f (reads f ready) .nodes) })
 
   -- The variables of all nodes are noted.
-  pub all-tested : AllTested f (take (i .actions) (i .starts)) (i .firsts) (i .nodes)
+  pub all-tested : AllTested f count row
   all-tested = record { own = λ a l. actions-stood f ready refl a l .tested }
 
   -- Each is well-formed.
-  pub actions-wf : {sizes : List ℕ} → sizes ≡ t .sizes → (a : ℕ) → a < length (take (i .actions) (i .starts)) → WfAction sizes (actionIn f sizes (getD (take (i .actions) (i .starts)) a 0) (drop (getD (i .firsts) a 0) (i .nodes)))
+  pub actions-wf : {sizes : List ℕ} → sizes ≡ t .sizes → (a : ℕ) → a < count → WfAction sizes (actionIn f sizes (getD row a 0) (drop (ownFrom row a) row))
   actions-wf {sizes} e a l =
-      let x = actionIn f sizes (getD (take (i .actions) (i .starts)) a 0) (drop (getD (i .firsts) a 0) (i .nodes)) in
-      let element = actions-at f sizes (take (i .actions) (i .starts)) (i .firsts) (i .nodes) a (length (take (i .actions) (i .starts))) l in
+      let x = actionIn f sizes (getD row a 0) (drop (ownFrom row a) row) in
+      let element = actions-at f sizes row a count l in
       subst (λ (ds : List ℕ). WfAction ds x) (sym e) (task-wf f (reads f ready) .actions (subst (λ (xs : List Action). At xs a x) (actions-are e) element))

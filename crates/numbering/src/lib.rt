@@ -4,47 +4,44 @@ use facts::number::offset_at;
 use facts::number::offset_within;
 use taskfile::Task;
 use walk::count::node_count;
+use walk::own_nodes;
 ghost use mathlib.Core.Path.{_≡_};
-ghost use Prim.Native.Nat.{ℕ, _+_, _≤_, _<_};
-ghost use lib.ListN.{length, getD};
+ghost use Prim.Native.Nat.{ℕ, _+_, _*_, _≤_, _<_};
+ghost use lib.ListN.{length, getD, take, drop};
 ghost use Rattle.facts.specs.Lists.{total};
 ghost use Rattle.facts.specs.Write.{Wrote};
 ghost use Rattle.taskfile.specs.PartsInPlace.{nodesIn, actionsIn, Tested};
 ghost use Rattle.compilation.specs.Compile.{edgeCount};
 ghost use Rattle.numbering.specs.InPlace.{AllTested, Rows, Edges, Numbered, noteFrom};
-ghost use Prim.Native.Nat.{_+_, _*_, _≤_};
-ghost use lib.ListN.{length, take, drop};
-ghost use Rattle.taskfile.specs.PartsInPlace.{actionsIn};
 
-// Numbers the steps: notes the number of each action's start, past the last the number of all steps, and for each node, at its index in `node_at`, the number of its first edge.
+// Numbers the steps of `actions` actions, by the row of the index: notes the number of each action's start, past the last the number of all steps, and for each of all nodes the number of its first edge.
 pub fn number_steps(
     file: &[u8],
     sizes: &[u8],
-    action_at: &[usize],
-    first_node: &[usize],
-    node_at: &[usize],
+    actions: usize,
+    row: &[usize],
     first_step: &mut [usize],
     first_edge: &mut [usize],
 )
-    requires { ⌜ length (now «action_at») < length (now «first_step») ⌝ }
-    requires { ⌜ Rows (actionsIn (now file) (now sizes) (now «action_at») (now «first_node») (now «node_at») 0 (length (now «action_at»))) (now «first_node») (length (now «first_edge»)) × AllTested (now file) (now «action_at») (now «first_node») (now «node_at») ⌝ }
-    ensures { λ r. ⌜ Numbered (actionsIn (now (file .entry)) (now (sizes .entry)) (now («action_at» .entry)) (now («first_node» .entry)) (now («node_at» .entry)) 0 (length (now («action_at» .entry)))) (now («first_node» .entry)) (now («first_step» .exit)) (now («first_edge» .exit)) ⌝ }
+    requires { ⌜ actions < length (now «first_step») ⌝ }
+    requires { ⌜ Rows (actionsIn (now file) (now sizes) (now row) 0 actions) (now row) (length (now «first_edge»)) × AllTested (now file) actions (now row) ⌝ }
+    ensures { λ r. ⌜ Numbered (actionsIn (now (file .entry)) (now (sizes .entry)) (now (row .entry)) 0 actions) (now (row .entry)) (now («first_step» .exit)) (now («first_edge» .exit)) ⌝ }
 {
     let mut next: usize = 0;
     let mut a: usize = 0;
-    while a < action_at.len() {
+    while a < actions {
         first_step[a] = next;
-        let first = offset_within(first_node, a, node_at.len());
-        let count = node_count(file, action_at[a]);
-        let row = offset_within(first_node, a, first_edge.len());
+        let own = own_nodes(row, a);
+        let count = node_count(file, offset_at(row, a));
+        let first = offset_within(row, Task::FIRSTS + a, first_edge.len());
         next = 1
             + number_edges(
                 file,
                 sizes,
-                &node_at[first..],
+                &row[own..],
                 count,
                 1 + next,
-                &mut first_edge[row..],
+                &mut first_edge[first..],
             );
         a += 1;
     }
