@@ -1,21 +1,16 @@
 -- `expansion::put_plan` meets its contract: the parts in place are the task's, and the state is the initial one. Assumes nothing.
 use Prim.Native.Nat.{ℕ, _+_, _*_, _-_, _≤_}
-use mathlib.Core.Path.{_≡_, sym, ap, subst, _∙_}
+use mathlib.Core.Path.{_≡_, sym, ap, _∙_}
 use mathlib.Core.List.{List}
 use native.Mathlib.Omega.{arith}
 use denote.Ref.{now}
 use lib.ListN.{length, take, drop}
 use lib.Seq.{length-take-le}
-use Rattle.facts.specs.Answers.{ranAnswer}
 use Rattle.facts.specs.Partial.{partialAt}
-use Rattle.facts.specs.Write.{Wrote}
-use Rattle.taskfile.specs.TaskFile.{runTask}
 use Rattle.taskfile.specs.WalkInPlace.{moveAt, runList}
 use Rattle.taskfile.specs.AnswerLaws.{There, there, Starts, starts, run-is}
-use Rattle.taskfile.specs.PartsInPlaceLaws.{incoming-noted}
 use Rattle.numbering.specs.NumberLaws.{rows-there, all-tested}
-use Rattle.numbering.specs.ExpandLaws.{init-inside, prepared, entries-are}
-use Rattle.taskfile.specs.TaskIndexLaws.{row-long}
+use Rattle.numbering.specs.ExpandLaws.{init-inside, prepared, wrote-expansion}
 use borrow.Author.Needs.{needs}
 use Rattle.expansion.proofs.put_plan.Statement.{statement}
 use Rattle.expansion.proofs.put_plan.Tie as tie
@@ -31,77 +26,47 @@ begins c = starts (now (c .args .file)) (c .pre .0)
 sizes-are : (c : tie.Start) → take (1 + c .args .variables - 1) (drop 1 (now (c .args .file))) ≡ task c .task .sizes
 sizes-are c = let same : 1 + c .args .variables - 1 ≡ c .args .variables = omega arith in ap (λ (k : ℕ). take k (drop 1 (now (c .args .file)))) same ∙ begins c .sizes
 
--- the offset of each action
-few : (c : tie.Start) → c .args .actions ≤ length (take 96 (now (c .args .row)))
-few c = omega (arith, begins c .actions, c .pre .0 .starts-long)
-
-starts-long : (c : tie.Start) → length (take (c .args .actions) (take 96 (now (c .args .row)))) ≡ c .args .actions
-starts-long c = length-take-le (c .args .actions) (take 96 (now (c .args .row))) (few c)
-
 -- the state has a value for each variable, and they are the initial ones
-long : (c : tie.After-initial) → c .before .before .before .before .before .before .before .before .before .before .before .before .before .before .before .before .args .variables ≤ length (c .initial .result)
-long c = omega (arith, c .initial .ensures .1, begins (c .before .before .before .before .before .before .before .before .before .before .before .before .before .before .before .before) .variables)
+long : (c : tie.After-initial) → c .before .before .before .before .before .before .before .before .before .before .before .args .variables ≤ length (c .initial .result)
+long c = omega (arith, c .initial .ensures .1, begins (c .before .before .before .before .before .before .before .before .before .before .before) .variables)
 
-state-is : (c : tie.After-initial) → take (c .before .before .before .before .before .before .before .before .before .before .before .before .before .before .before .before .args .variables) (c .initial .result) ≡ task (c .before .before .before .before .before .before .before .before .before .before .before .before .before .before .before .before) .task .init
-state-is c = c .initial .ensures .0 ∙ begins (c .before .before .before .before .before .before .before .before .before .before .before .before .before .before .before .before) .init
+state-is : (c : tie.After-initial) → take (c .before .before .before .before .before .before .before .before .before .before .before .args .variables) (c .initial .result) ≡ task (c .before .before .before .before .before .before .before .before .before .before .before) .task .init
+state-is c = c .initial .ensures .0 ∙ begins (c .before .before .before .before .before .before .before .before .before .before .before) .init
 
 put-list-requires : tie.Need-put-list-requires
 put-list-requires c κs =
-    let s = c .before .before .before .before .before .before .before .before .before .before .before .before .before .before .before .before .before .before .before .before in
+    let s = c .before .before .before .before .before .before .before .before .before .before .before .before .before .before .before in
     let f = now (s .args .file) in
-    ((prepared f (s .pre .0) (sizes-are s) (incoming-noted f (s .pre .0) (begins s .actions)) (c .before .before .before .before .before .before .before .number-steps .ensures), init-inside f (s .pre .0) (sizes-are s) (state-is (c .before .before .before .before))), (s .pre .1, s .pre .2))
-
--- what the run of the list answers
-ran : (c : tie.After-put-list) → let a = c .before .before .before .before .before .before .before .before .before .before .before .before .before .before .before .before .before .before .before .before .before .args in ranAnswer (c .put-list .result .answer) ≡ runTask (now (a .file)) (now (a .list))
-ran c =
-    let s = c .before .before .before .before .before .before .before .before .before .before .before .before .before .before .before .before .before .before .before .before .before in
-    let f = now (s .args .file) in
-    let list = now (s .args .list) in
-    let t = s .args in
-    let begins = take (t .actions) (take 96 (now (t .row))) in
-    c .put-list .ensures .0 ∙ ap (λ (state : List ℕ). runList (length begins) (moveAt f begins (take 32 (drop 96 (now (t .row)))) (take 128 (drop 128 (now (t .row))))) (partialAt f (1 + 2 * t .variables)) list state) (c .before .before .before .before .before .initial .ensures .0) ∙ sym (run-is f (s .pre .0) list)
+    ((prepared f (s .pre .0) (sizes-are s) (c .before .before .before .before .before .before .before .number-steps .ensures), init-inside f (s .pre .0) (sizes-are s) (state-is (c .before .before .before .before))), (s .pre .1, s .pre .2))
 
 returns : tie.Need-returns
 returns c =
-    let s = c .before .before .before .before .before .before .before .before .before .before .before .before .before .before .before .before .before .before .before .before .before .before .before .before in
-    let put = c .before .before .before in (
-      ran put,
-      record {
-        wrote = λ h.
-            subst (λ (l : List ℕ). Wrote l (now (s .args .out)) (put .put-list .last .1 .1 .1 .1 .1 .1 .1 .1 .1 .1 .1 .0) (put .put-list .result .written))
-            (entries-are (now (s .args .file)) (s .pre .0) (now (s .args .list)) h (sizes-are s) (state-is (c .before .before .before .before .before .before .before .before))) (put .put-list .ensures .1 .wrote (ran put ∙ h));
-      },
-    )
+    let s = c .before .before .before .before .before .before .before .before .before .before .before .before .before .before .before .before .before .before .before in
+    let x = s .args in
+    let f = now (x .file) in
+    let list = now (x .list) in
+    let put = c .before .before .before .put-list in
+    let ran = put .ensures .0 ∙ ap (λ (state : List ℕ). runList (x .actions) (moveAt f (now (x .row))) (partialAt f (1 + 2 * x .variables)) list state) (c .before .before .before .before .before .before .before .before .initial .ensures .0) ∙ sym (run-is f (s .pre .0) list) in
+    (ran, wrote-expansion f (s .pre .0) list (sizes-are s) (state-is (c .before .before .before .before .before .before .before .before)) (now (x .out)) (put .last .1 .1 .1 .1 .1 .1 .1 .1 .1 .0) (put .result) ran (put .ensures .1))
 
 pub put-plan-spec : {M : Type 1} → statement M
 put-plan-spec =
     tie.close
     (tie.spec
-    (λ c. sym (c .before .before .before .before .before .pre .0 .starts-long))
+    (λ c. omega (arith, begins (c .before .before .before .before) .variables))
     (λ c. search needs)
     (λ c. search needs)
-    (λ c. omega (arith, row-long _ (now (c .before .before .before .before .before .args .row)) (c .before .before .before .before .before .pre .0)))
+    (λ c. omega (arith, begins (c .before .before .before .before) .fits))
     (λ c. search needs)
     (λ c. search needs)
-    (λ c. omega (arith, row-long _ (now (c .before .before .before .before .before .before .args .row)) (c .before .before .before .before .before .before .pre .0)))
-    (λ c. omega (arith, begins (c .before .before .before .before .before .before .before) .variables))
-    (λ c. search needs)
-    (λ c. search needs)
-    (λ c. omega (arith, begins (c .before .before .before .before .before .before .before) .fits))
-    (λ c. sym (starts-long (c .before .before .before .before .before .before .before .before .before)))
-    (λ c. search needs)
-    (λ c. search needs)
-    (λ c. omega (arith, c .before .before .before .before .before .before .before .before .before .pre .0 .starts-long))
-    (λ c. search needs)
-    (λ c. search needs)
-    (λ c κs. let s = c .before .before .before .before .before .before .before .before .before .before .before .before in (omega (arith, starts-long s, begins s .actions), (rows-there (now (s .args .file)) (s .pre .0) (sizes-are s) (omega arith), all-tested (now (s .args .file)) (s .pre .0))))
-    (λ c κs. let b = begins (c .before .before .before .before .before .before .before .before .before .before .before .before .before .before .before) in (b .variables, b .fits))
-    (λ c. omega (arith, begins (c .before .before .before .before .before .before .before .before .before .before .before .before .before .before .before .before) .variables))
-    (λ c. omega (arith, begins (c .before .before .before .before .before .before .before .before .before .before .before .before .before .before .before .before) .variables))
+    (λ c κs. let s = c .before .before .before .before .before .before .before in (omega (arith, begins s .actions), (rows-there (now (s .args .file)) (s .pre .0) (sizes-are s) (omega arith), all-tested (now (s .args .file)) (s .pre .0))))
+    (λ c κs. let b = begins (c .before .before .before .before .before .before .before .before .before .before) in (b .variables, b .fits))
+    (λ c. omega (arith, begins (c .before .before .before .before .before .before .before .before .before .before .before) .variables))
+    (λ c. omega (arith, begins (c .before .before .before .before .before .before .before .before .before .before .before) .variables))
     (λ c. search needs)
     (λ c. search needs)
     (λ c. long (c .before .before))
-    (λ c. sym (length-take-le (c .before .before .before .before .before .before .before .before .before .before .before .before .before .before .before .before .before .before .before .args .variables) (c .before .before .before .initial .result) (long (c .before .before .before))))
+    (λ c. sym (length-take-le (c .before .before .before .before .before .before .before .before .before .before .before .before .before .before .args .variables) (c .before .before .before .initial .result) (long (c .before .before .before))))
     put-list-requires
     (λ c. search needs)
     returns)
