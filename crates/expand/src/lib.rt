@@ -1,6 +1,5 @@
 // Expanding: the probe list that comes from a list of actions.
 use carry::Carried;
-use facts::Ran;
 use facts::Refusal;
 use taskfile::Counted;
 use taskfile::Task;
@@ -8,7 +7,7 @@ ghost use mathlib.Core.Path.{_≡_};
 ghost use Prim.Native.Nat.{_*_, _≤_};
 ghost use lib.ListN.{length};
 ghost use Rattle.taskfile.specs.Task.{maxList};
-ghost use Rattle.taskfile.specs.Index.{indexOf, Ready};
+ghost use Rattle.taskfile.specs.Index.{Ready};
 ghost use Rattle.carry.specs.CarryFile.{expanded, answerIn, bufferIn};
 ghost use Rattle.numbering.specs.InPlace.{maxEntries};
 ghost use Rattle.carry.specs.Answers.{carriedAnswer};
@@ -40,7 +39,7 @@ fn expand_in(
     list: &[u16],
     out: &mut [u16],
 ) -> Carried
-    requires { ⌜ Ready (now file) (indexOf variables actions (now row)) ⌝ }
+    requires { ⌜ Ready (now file) variables actions (now row) ⌝ }
     ensures { λ r. ⌜ carriedAnswer r ≡ answerIn (length (now (out .entry))) (expanded (now (file .entry)) (now (list .entry))) ⌝ }
     ensures { λ r. ⌜ now (out .exit) ≡ bufferIn (now (out .entry)) (expanded (now (file .entry)) (now (list .entry))) ⌝ }
 {
@@ -65,16 +64,13 @@ fn expand_by(
     room: &mut [u16],
     out: &mut [u16],
 ) -> Carried
-    requires { ⌜ Ready (now file) (indexOf variables actions (now row)) × (length (now list) ≤ maxList) × (maxEntries * length (now list) ≤ length (now room)) ⌝ }
+    requires { ⌜ Ready (now file) variables actions (now row) × (length (now list) ≤ maxList) × (maxEntries * length (now list) ≤ length (now room)) ⌝ }
     ensures { λ r. ⌜ carriedAnswer r ≡ answerIn (length (now (out .entry))) (expanded (now (file .entry)) (now (list .entry))) ⌝ }
     ensures { λ r. ⌜ now (out .exit) ≡ bufferIn (now (out .entry)) (expanded (now (file .entry)) (now (list .entry))) ⌝ }
 {
-    let listed = expansion::put_plan(file, variables, actions, row, list, room);
-    let answer = listed.answer;
-    let written = listed.written;
-    match answer {
-        Ran::Refused(why) => Carried::Refused(why),
-        Ran::Sum(sum) => {
+    match expansion::put_plan(file, variables, actions, row, list, room) {
+        Carried::Refused(why) => Carried::Refused(why),
+        Carried::List(written, sum) => {
             if out.len() < written {
                 return Carried::Refused(Refusal::Short(written));
             }

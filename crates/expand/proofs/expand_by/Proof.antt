@@ -1,33 +1,33 @@
 -- `expand::expand_by` meets its contract: the run's refusal, and else what was written, copied where there is room. Assumes nothing.
 use Prim.Native.Nat.{_≤_}
-use mathlib.Core.Path.{_≡_, sym, ap, _∙_}
+use mathlib.Core.Path.{_≡_, sym, ap, subst, _∙_}
 use native.Mathlib.Omega.{arith}
 use denote.Ref.{now}
 use lib.ListN.{length}
 use lib.Seq.{length-take-le}
 use Rattle.facts.specs.Read.{accepted}
-use Rattle.facts.specs.Answers.{ranAnswer}
 use Rattle.facts.specs.Write.{Wrote}
 use Rattle.facts.specs.WriteLaws.{wrote-inside}
 use Rattle.taskfile.specs.TaskFile.{runTask}
 use Rattle.taskfile.specs.PartsInPlaceLaws.{reads}
-use Rattle.numbering.specs.InPlace.{expansion}
+use Rattle.numbering.specs.InPlace.{expansion, listedSum, WroteIf}
 use Rattle.numbering.specs.ExpandLaws.{expansion-few, expand-no-list, expand-plan, front-copied}
+use Rattle.carry.specs.declared.Carried.{Carried}
 use Rattle.carry.specs.AnswerLaws.{refused-in, short-in, wrote-in}
 use borrow.Author.Needs.{needs}
 use Rattle.expand.proofs.expand_by.Statement.{statement}
 use Rattle.expand.proofs.expand_by.Tie as tie
 
 -- the list is a plan
-runs : (c : tie.After-answer2) → let a = c .before .before .before .before .before .before .before .before .before .before .before .args in runTask (now (a .file)) (now (a .list)) ≡ accepted (c .answer2 .given .0 .0)
-runs c = sym (c .before .before .before .before .put-plan .ensures .0) ∙ ap ranAnswer (c .answer2 .given .1)
+runs : (c : tie.After-written) → let a = c .before .before .before .before .before .before .before .before .before .before .before .args in runTask (now (a .file)) (now (a .list)) ≡ accepted (c .written .given .0 .1 .0)
+runs c = sym (c .before .before .before .before .put-plan .ensures .0) ∙ ap listedSum (c .written .given .1)
 
 -- its probe list is written
-wrote : (c : tie.After-answer2) → let a = c .before .before .before .before .before .before .before .before .before .before .before .args in Wrote (expansion (now (a .file)) (now (a .list))) (now (a .room)) (c .before .before .before .before .put-plan .last .1 .1 .1 .1 .1 .0) (c .before .before .before .before .put-plan .result .written)
-wrote c = c .before .before .before .before .put-plan .ensures .1 .wrote (runs c)
+wrote : (c : tie.After-written) → let a = c .before .before .before .before .before .before .before .before .before .before .before .args in Wrote (expansion (now (a .file)) (now (a .list))) (now (a .room)) (c .before .before .before .before .put-plan .last .1 .1 .1 .1 .1 .0) (c .written .given .0 .0)
+wrote c = let a = c .before .before .before .before .before .before .before .before .before .before .before .args in subst (λ (r : Carried). WroteIf r (expansion (now (a .file)) (now (a .list))) (now (a .room)) (c .before .before .before .before .put-plan .last .1 .1 .1 .1 .1 .0)) (c .written .given .1) (c .before .before .before .before .put-plan .ensures .1)
 
 -- it is inside the buffer
-inside : (c : tie.After-answer2) → c .before .before .before .before .put-plan .result .written ≤ length (c .before .before .before .before .put-plan .last .1 .1 .1 .1 .1 .0)
+inside : (c : tie.After-written) → c .written .given .0 .0 ≤ length (c .before .before .before .before .put-plan .last .1 .1 .1 .1 .1 .0)
 inside c =
     let s = c .before .before .before .before .before .before .before .before .before .before .before in
     let f = now (s .args .file) in
@@ -44,7 +44,7 @@ returns-2 : tie.Need-returns-2
 returns-2 c =
     let s = c .before .before .before .before .before .before .before .before .before .before .before .before in
     let f = now (s .args .file) in
-    let r = refused-in (now (s .args .out)) (expand-no-list f (reads f (s .pre .0)) (now (s .args .list)) (sym (c .before .before .before .before .before .put-plan .ensures .0) ∙ ap ranAnswer (c .before .answer .given .1))) in
+    let r = refused-in (now (s .args .out)) (expand-no-list f (reads f (s .pre .0)) (now (s .args .list)) (sym (c .before .before .before .before .before .put-plan .ensures .0) ∙ ap listedSum (c .before .why .given .1))) in
     (sym (r .0), sym (r .1))
 
 returns-3 : tie.Need-returns-3
@@ -66,7 +66,7 @@ expand-by-spec =
     returns
     (λ c. inside (c .before .before))
     (λ c. sym (length-take-le _ _ (inside (c .before .before .before))))
-    (λ c κs. omega (arith, c .before .before .if1 .left, length-take-le (c .before .before .before .before .before .before .before .before .put-plan .result .written) (c .before .before .before .before .before .before .before .before .put-plan .last .1 .1 .1 .1 .1 .0) (inside (c .before .before .before .before))))
+    (λ c κs. omega (arith, c .before .before .if1 .left, length-take-le (c .before .before .before .before .written .given .0 .0) (c .before .before .before .before .before .before .before .before .put-plan .last .1 .1 .1 .1 .1 .0) (inside (c .before .before .before .before))))
     (λ c. search needs)
     returns-2
     (λ c. search needs)
