@@ -8,6 +8,7 @@ use Rattle.facts.specs.Read.{accepted}
 use Rattle.facts.specs.Partial.{apply, partialAt}
 use Rattle.facts.specs.Run.{next as went, runFrom}
 use Rattle.taskfile.specs.Task.{Node, maxWeight, WfAction}
+use Rattle.taskfile.specs.Row.{ownFrom}
 use Rattle.taskfile.specs.WalkInPlace.{wayFrom, maxWalk, performAt, moveAt}
 use Rattle.taskfile.specs.PartsInPlace.{nodesIn, actionIn, actionsIn}
 use Rattle.compilation.specs.Compile.{stepCount}
@@ -57,23 +58,23 @@ ActionTo f sizes at offsets s list from after Astray = Unit {0}
 -- ---- a whole list
 
 -- what a list is followed by: each action is well-formed, the variables that its nodes test are noted, its steps have their numbers, at most 576, and each start has its action
-pub record Followable (f sizes actions firsts nodes first-step first-edge action-of : List ℕ) : Type 0 where
-  pub well-formed : (a : ℕ) → a < length actions → WfAction sizes (actionIn f sizes (getD actions a 0) (drop (getD firsts a 0) nodes))
-  pub tested : AllTested f actions firsts nodes
-  pub numbered : Numbered (actionsIn f sizes actions firsts nodes 0 (length actions)) firsts first-step first-edge
-  pub few : total stepCount (actionsIn f sizes actions firsts nodes 0 (length actions)) ≤ 576
-  pub noted : Noted (actionsIn f sizes actions firsts nodes 0 (length actions)) action-of
+pub record Followable (f sizes : List ℕ) (count : ℕ) (row first-step first-edge action-of : List ℕ) : Type 0 where
+  pub well-formed : (a : ℕ) → a < count → WfAction sizes (actionIn f sizes (getD row a 0) (drop (ownFrom row a) row))
+  pub tested : AllTested f count row
+  pub numbered : Numbered (actionsIn f sizes row 0 count) row first-step first-edge
+  pub few : total stepCount (actionsIn f sizes row 0 count) ≤ 576
+  pub noted : Noted (actionsIn f sizes row 0 count) action-of
 
 -- the first n entries of `out` are actions that lead from the state s to the goal with this sum, and the list comes from them
-pub record Plan-followed (f sizes : List ℕ) (goal : ℕ) (actions firsts nodes list s out : List ℕ) (n sum : ℕ) : Type 0 where
+pub record Plan-followed (f sizes : List ℕ) (goal count : ℕ) (row list s out : List ℕ) (n sum : ℕ) : Type 0 where
   pub within : n ≤ length out
-  pub comes : list ≡ expandFrom (actionsIn f sizes actions firsts nodes 0 (length actions)) (take n out) s
-  pub runs : runFrom (length actions) (moveAt f actions firsts nodes) (partialAt f goal) 0 0 (take n out) s ≡ accepted sum
+  pub comes : list ≡ expandFrom (actionsIn f sizes row 0 count) (take n out) s
+  pub runs : runFrom count (moveAt f row) (partialAt f goal) 0 0 (take n out) s ≡ accepted sum
 
 -- what the answer to a list says
-abbrev pub PlanTo : List ℕ → List ℕ → ℕ → List ℕ → List ℕ → List ℕ → List ℕ → List ℕ → List ℕ → Followed → Type 0
-PlanTo f sizes goal actions firsts nodes list s out (Plan n sum) = Plan-followed f sizes goal actions firsts nodes list s out n sum
-PlanTo f sizes goal actions firsts nodes list s out NoPlan = Unit {0}
+abbrev pub PlanTo : List ℕ → List ℕ → ℕ → ℕ → List ℕ → List ℕ → List ℕ → List ℕ → Followed → Type 0
+PlanTo f sizes goal count row list s out (Plan n sum) = Plan-followed f sizes goal count row list s out n sum
+PlanTo f sizes goal count row list s out NoPlan = Unit {0}
 
 -- on an accepted file: a list that is followed to its end is contracted to the first n entries of `out`
 abbrev pub ContractsTo : List ℕ → List ℕ → List ℕ → Followed → Type 0

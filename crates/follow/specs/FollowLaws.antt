@@ -20,13 +20,14 @@ use Rattle.facts.specs.State.{Inside}
 use Rattle.facts.specs.Run.{runFrom}
 use Rattle.taskfile.specs.Task.{Action, Task, WfAction, maxWeight, maxList, taskSum}
 use Rattle.taskfile.specs.TaskLaws.{task-plan}
-use Rattle.taskfile.specs.Index.{Index, Ready}
-use Rattle.taskfile.specs.AnswerLaws.{there as task-there, starts, starts-count}
+use Rattle.taskfile.specs.Index.{Ready}
+use Rattle.taskfile.specs.AnswerLaws.{there as task-there, starts}
+use Rattle.taskfile.specs.Row.{firstsFrom, ownFrom}
 use Rattle.taskfile.specs.MoveInPlaceLaws.{sum-in-place}
 use Rattle.taskfile.specs.WalkInPlace.{wayFrom, maxWalk, moveBy, moveAt}
 use Rattle.taskfile.specs.WalkInPlaceLaws.{turn-none}
 use Rattle.taskfile.specs.PartsInPlace.{nodesIn, actionIn, actionsIn}
-use Rattle.taskfile.specs.PartsInPlaceLaws.{reads, located}
+use Rattle.taskfile.specs.PartsInPlaceLaws.{reads}
 use Rattle.compilation.specs.Compile.{stepCount}
 use Rattle.plans.specs.Carry.{pathSteps, firstStep, actionList, expandFrom, expand, startedBy}
 use Rattle.plans.specs.ListLaws.{total-take}
@@ -34,7 +35,7 @@ use Rattle.carry.specs.CarryFile.{contracted}
 use Rattle.numbering.specs.InPlace.{entriesOf, Numbered, Noted, NotedIn}
 use Rattle.carry.specs.SameSumLaws.{over-front, contracted-plan}
 use Rattle.carry.specs.AnswerLaws.{wrote-entry}
-use Rattle.numbering.specs.NumberLaws.{actions-at, total-next, actionsOf, actions-are, steps-few, all-tested, actions-wf}
+use Rattle.numbering.specs.NumberLaws.{actions-at, total-next, actions-are, steps-few, all-tested, actions-wf}
 use Rattle.numbering.specs.ActionLaws.{Visited, path-entry, path-last}
 use Rattle.follow.specs.Follow.{Walkable, Followable, Path-passed, Action-passed, Plan-followed, PlanTo, ContractsTo}
 use Rattle.follow.specs.declared.Followed.{Followed}
@@ -133,16 +134,12 @@ noted-start {actions} {action-of} n {r} {action} e some-start = go (startedBy 0 
 
 -- ---- the actions of a list, one after the other
 
--- the actions in place
-abbrev placed : List ℕ → List ℕ → List ℕ → List ℕ → List ℕ → List Action
-placed f sizes actions firsts nodes = actionsIn f sizes actions firsts nodes 0 (length actions)
-
 -- What an action is followed by, in a state inside the domains.
-pub walkable-there : {f sizes actions firsts nodes first-step first-edge action-of s : List ℕ} → Followable f sizes actions firsts nodes first-step first-edge action-of → Inside sizes s
-    → {a at next r : ℕ} {own row : List ℕ} → a < length actions → at ≡ getD actions a 0 → own ≡ drop (getD firsts a 0) nodes → row ≡ drop (getD firsts a 0) first-edge
-    → next ≡ getD first-step (1 + a) 0 → r ≡ firstStep (placed f sizes actions firsts nodes) a → Walkable sizes (actionIn f sizes at own .nodes) row r next s
-walkable-there {f} {sizes} {actions} {firsts} {nodes} {first-step} p inside {a} known e o oe n r =
-    let element = actions-at f sizes actions firsts nodes a (length actions) known in
+pub walkable-there : {f sizes : List ℕ} {count : ℕ} {row first-step first-edge action-of s : List ℕ} → Followable f sizes count row first-step first-edge action-of → Inside sizes s
+    → {a at next r : ℕ} {own own-edges : List ℕ} → a < count → at ≡ getD row a 0 → own ≡ drop (ownFrom row a) row → own-edges ≡ drop (getD row (firstsFrom + a) 0) first-edge
+    → next ≡ getD first-step (1 + a) 0 → r ≡ firstStep (actionsIn f sizes row 0 count) a → Walkable sizes (actionIn f sizes at own .nodes) own-edges r next s
+walkable-there {f} {sizes} {count} {row} {first-step} p inside {a} known e o oe n r =
+    let element = actions-at f sizes row a count known in
     let one : 1 + a ≡ suc a = omega arith in
     let after = n ∙ ap (λ (k : ℕ). getD first-step k 0) one ∙ p .numbered .numbers (suc a) (omega (arith, at-length element)) ∙ total-next stepCount element in
     rw (e, o, oe, r, after)
@@ -156,21 +153,21 @@ walkable-there {f} {sizes} {actions} {firsts} {nodes} {first-step} p inside {a} 
     })
 
 -- The first i entries of the list come from actions that lead from the state `from` to s with this sum, and that are written at the front of a buffer.
-pub record Following (f sizes actions firsts nodes : List ℕ) (goal : Partial) (list from before now s : List ℕ) (i sum count : ℕ) : Type 0 where
+pub record Following (f sizes : List ℕ) (count : ℕ) (row : List ℕ) (goal : Partial) (list from before now s : List ℕ) (i sum written : ℕ) : Type 0 where
   pub done : List ℕ
-  pub wrote : Wrote done before now count
+  pub wrote : Wrote done before now written
   pub same : length now ≡ length before
-  pub room : count ≤ length before
+  pub room : written ≤ length before
   pub within : i ≤ length list
-  pub small : sum ≤ maxWalk * count
+  pub small : sum ≤ maxWalk * written
   pub inside : Inside sizes s
   pub keeps : length s ≡ length from
-  pub runs : (rest : List ℕ) → runFrom (length actions) (moveAt f actions firsts nodes) goal 0 0 (done ++ rest) from ≡ runFrom (length actions) (moveAt f actions firsts nodes) goal count sum rest s
-  pub comes : (rest : List ℕ) → drop i list ≡ expandFrom (placed f sizes actions firsts nodes) rest s → list ≡ expandFrom (placed f sizes actions firsts nodes) (done ++ rest) from
+  pub runs : (rest : List ℕ) → runFrom count (moveAt f row) goal 0 0 (done ++ rest) from ≡ runFrom count (moveAt f row) goal written sum rest s
+  pub comes : (rest : List ℕ) → drop i list ≡ expandFrom (actionsIn f sizes row 0 count) rest s → list ≡ expandFrom (actionsIn f sizes row 0 count) (done ++ rest) from
 
-module _ {f sizes actions firsts nodes : List ℕ} {goal : Partial} {list : List ℕ} where
+module _ {f sizes : List ℕ} {count : ℕ} {row : List ℕ} {goal : Partial} {list : List ℕ} where
   -- At first none do.
-  pub following-start : (from out : List ℕ) → Inside sizes from → Following f sizes actions firsts nodes goal list from out out from 0 0 0
+  pub following-start : (from out : List ℕ) → Inside sizes from → Following f sizes count row goal list from out out from 0 0 0
   unfolding over
   following-start from out inside = record {
     done = [];
@@ -185,62 +182,62 @@ module _ {f sizes actions firsts nodes : List ℕ} {goal : Partial} {list : List
     comes = λ rest h. h;
   }
 
-  module _ {from before now s : List ℕ} {i sum count : ℕ} (g : Following f sizes actions firsts nodes goal list from before now s i sum count) where
+  module _ {from before now s : List ℕ} {i sum written : ℕ} (g : Following f sizes count row goal list from before now s i sum written) where
     -- One action more, whose entries come next.
-    pub following-next : {a at next′ cost : ℕ} {own after : List ℕ} → a < length actions → at ≡ getD actions a 0 → own ≡ drop (getD firsts a 0) nodes → i < length list → getD list i 0 ≡ firstStep (placed f sizes actions firsts nodes) a
-        → WfAction sizes (actionIn f sizes (getD actions a 0) (drop (getD firsts a 0) nodes)) → count < length before → Action-passed f sizes at own s list i after next′ cost
-        → Following f sizes actions firsts nodes goal list from before (set now count a) after next′ (sum + cost) (count + 1)
+    pub following-next : {a at next′ cost : ℕ} {own after : List ℕ} → a < count → at ≡ getD row a 0 → own ≡ drop (ownFrom row a) row → i < length list → getD list i 0 ≡ firstStep (actionsIn f sizes row 0 count) a
+        → WfAction sizes (actionIn f sizes (getD row a 0) (drop (ownFrom row a) row)) → written < length before → Action-passed f sizes at own s list i after next′ cost
+        → Following f sizes count row goal list from before (set now written a) after next′ (sum + cost) (written + 1)
     unfolding moveBy runFrom
     following-next {a} {at} {next′} {cost} {own} {after} known e o l start wf room passed =
         let p = subst₂ (λ (k : ℕ) (z : List ℕ). Action-passed f sizes k z s list i after next′ cost) e o passed in
-        let element = actions-at f sizes actions firsts nodes a (length actions) known in
-        let x = actionIn f sizes (getD actions a 0) (drop (getD firsts a 0) nodes) in
+        let element = actions-at f sizes row a count known in
+        let x = actionIn f sizes (getD row a 0) (drop (ownFrom row a) row) in
         record {
           done = g .done ++ (a ∷ []);
           wrote = wrote-entry a (omega (arith, g .wrote .count)) (g .wrote);
-          same = length-set now count a ∙ g .same;
+          same = length-set now written a ∙ g .same;
           room = omega arith;
           within = p .passed .within;
           small = omega (arith, g .small, p .small);
           inside = rw (p .state) (apply-inside (x .eff) sizes s (wf .eff .values) (g .inside));
           keeps = ap length (p .state) ∙ length-apply (x .eff) s ∙ g .keeps;
           runs = λ rest.
-              ap (λ (z : List ℕ). runFrom (length actions) (moveAt f actions firsts nodes) goal 0 0 z from) (append-assoc (g .done) (a ∷ []) rest)
+              ap (λ (z : List ℕ). runFrom count (moveAt f row) goal 0 0 z from) (append-assoc (g .done) (a ∷ []) rest)
               ∙ g .runs (a ∷ rest)
-              ∙ rw (lt-ltb a (length actions) known, ← p .moves, add-one count);
+              ∙ rw (lt-ltb a count known, ← p .moves, add-one written);
           comes = λ rest h.
-              let whole : expandFrom (placed f sizes actions firsts nodes) (a ∷ rest) s ≡ actionList (firstStep (placed f sizes actions firsts nodes) a) x s ++ expandFrom (placed f sizes actions firsts nodes) rest (apply (x .eff) s) = rw (look element, expandFrom) in
+              let whole : expandFrom (actionsIn f sizes row 0 count) (a ∷ rest) s ≡ actionList (firstStep (actionsIn f sizes row 0 count) a) x s ++ expandFrom (actionsIn f sizes row 0 count) rest (apply (x .eff) s) = rw (look element, expandFrom) in
               g .comes (a ∷ rest)
               (p .passed .entries
-              ∙ ap₂ (λ (r : ℕ) (z : List ℕ). entriesOf r (x .nodes) s ++ z) start (h ∙ ap (expandFrom (placed f sizes actions firsts nodes) rest) (p .state))
+              ∙ ap₂ (λ (r : ℕ) (z : List ℕ). entriesOf r (x .nodes) s ++ z) start (h ∙ ap (expandFrom (actionsIn f sizes row 0 count) rest) (p .state))
               ∙ sym whole)
-              ∙ ap (λ (z : List ℕ). expandFrom (placed f sizes actions firsts nodes) z from) (sym (append-assoc (g .done) (a ∷ []) rest));
+              ∙ ap (λ (z : List ℕ). expandFrom (actionsIn f sizes row 0 count) z from) (sym (append-assoc (g .done) (a ∷ []) rest));
         }
 
     -- The list ends where the goal holds.
-    pub following-end : {place : ℕ} → goal ≡ partialAt f place → length list ≤ i → true ≡ holds goal s → Plan-followed f sizes place actions firsts nodes list from now count sum
+    pub following-end : {place : ℕ} → goal ≡ partialAt f place → length list ≤ i → true ≡ holds goal s → Plan-followed f sizes place count row list from now written sum
     unfolding runFrom
     following-end {place} e l met =
-        let front : take count now ≡ g .done = ap₂ (λ (k : ℕ) (z : List ℕ). take k z) (g .wrote .count) (g .wrote .buffer) ∙ over-front (g .done) before in
+        let front : take written now ≡ g .done = ap₂ (λ (k : ℕ) (z : List ℕ). take k z) (g .wrote .count) (g .wrote .buffer) ∙ over-front (g .done) before in
         let all = append-nil (g .done) in
         record {
           within = omega (arith, g .room, g .same);
-          comes = g .comes [] (drop-of-length-le list l) ∙ ap (λ (z : List ℕ). expandFrom (placed f sizes actions firsts nodes) z from) (all ∙ sym front);
+          comes = g .comes [] (drop-of-length-le list l) ∙ ap (λ (z : List ℕ). expandFrom (actionsIn f sizes row 0 count) z from) (all ∙ sym front);
           runs =
               rw (← e, front)
-              (ap (λ (z : List ℕ). runFrom (length actions) (moveAt f actions firsts nodes) goal 0 0 z from) (sym all) ∙ g .runs [] ∙ rw (← met));
+              (ap (λ (z : List ℕ). runFrom count (moveAt f row) goal 0 0 z from) (sym all) ∙ g .runs [] ∙ rw (← met));
         }
 
 -- ---- a list on an accepted file
 
-module _ (f : List ℕ) {i : Index} (ready : Ready f i) where
+module _ (f : List ℕ) {variables count : ℕ} {row : List ℕ} (ready : Ready f variables count row) where
   -- the file's task
   abbrev t : Task
   t = task-there f ready .task
 
   -- It can be followed.
-  pub followable : {sizes first-step first-edge action-of : List ℕ} → sizes ≡ t .sizes → Numbered (actionsOf f ready sizes) (i .firsts) first-step first-edge → NotedIn f action-of
-      → Followable f sizes (take (i .actions) (i .starts)) (i .firsts) (i .nodes) first-step first-edge action-of
+  pub followable : {sizes first-step first-edge action-of : List ℕ} → sizes ≡ t .sizes → Numbered (actionsIn f sizes row 0 count) row first-step first-edge → NotedIn f action-of
+      → Followable f sizes count row first-step first-edge action-of
   followable {action-of = action-of} e n noted = record {
     well-formed = actions-wf f ready e;
     tested = all-tested f ready;
@@ -251,17 +248,17 @@ module _ (f : List ℕ) {i : Index} (ready : Ready f i) where
 
   -- Where it is followed to its end, it is contracted to the actions that it comes from.
   pub followed-contracts : {sizes state list out : List ℕ} {n sum : ℕ} → sizes ≡ t .sizes → state ≡ t .init → length out ≤ maxList
-      → Plan-followed f sizes (1 + 2 * i .variables) (take (i .actions) (i .starts)) (i .firsts) (i .nodes) list state out n sum → (n ≤ length out) × (contracted f list ≡ accepted (take n out, sum))
+      → Plan-followed f sizes (1 + 2 * variables) count row list state out n sum → (n ≤ length out) × (contracted f list ≡ accepted (take n out, sum))
   unfolding expand
   followed-contracts {sizes} {state} {list} {out} {n} {sum} e s few p =
       let plan = take n out in
       let short : length plan ≤ maxList = omega (arith, length-take-le n out (p .within), p .within) in
-      let run : taskSum t plan ≡ accepted sum = sym (sum-in-place f (reads f ready) (located f ready) (starts-count f ready) (1 + 2 * i .variables) plan state s (starts f ready .goal)) ∙ p .runs in
+      let run : taskSum t plan ≡ accepted sum = sym (sum-in-place f (reads f ready) (ready .located) (sym (task-there f ready .actions)) (1 + 2 * variables) plan state s (starts f ready .goal)) ∙ p .runs in
       let comes : list ≡ expand t plan = p .comes ∙ ap₂ (λ (xs : List Action) (z : List ℕ). expandFrom xs plan z) (actions-are f ready e) s in
       (p .within, ap (contracted f) comes ∙ contracted-plan f (reads f ready) (task-plan t plan sum .1 run) short)
 
   -- Whatever is answered.
   pub followed-answers : {sizes state : List ℕ} (list out : List ℕ) → sizes ≡ t .sizes → state ≡ t .init → length out ≤ maxList → (r : Followed)
-      → PlanTo f sizes (1 + 2 * i .variables) (take (i .actions) (i .starts)) (i .firsts) (i .nodes) list state out r → ContractsTo f list out r
+      → PlanTo f sizes (1 + 2 * variables) count row list state out r → ContractsTo f list out r
   followed-answers list out e s few (Plan n sum) p = followed-contracts e s few p
   followed-answers list out e s few NoPlan p = tt

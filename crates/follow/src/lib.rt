@@ -12,11 +12,12 @@ use partial::holds_at;
 use taskfile::Task;
 use walk::diagram_past;
 use walk::edge_for;
+use walk::own_nodes;
 ghost use mathlib.Core.Path.{_≡_};
 ghost use Prim.Native.Nat.{_+_, _≤_, _<_};
 ghost use lib.ListN.{length, getD};
 ghost use Rattle.facts.specs.State.{Inside};
-ghost use Rattle.taskfile.specs.Index.{indexOf, Ready};
+ghost use Rattle.taskfile.specs.Index.{Ready};
 ghost use Rattle.taskfile.specs.Task.{maxList};
 ghost use Rattle.taskfile.specs.WalkInPlace.{maxPassed, nodeCount};
 ghost use Rattle.taskfile.specs.PartsInPlace.{nodesIn, actionIn, Tested};
@@ -43,26 +44,14 @@ pub fn follow_plan(
     list: &[u16],
     plan: &mut [u16],
 ) -> Followed
-    requires { ⌜ Ready (now file) (indexOf variables actions (now row)) × (length (now plan) ≤ maxList) ⌝ }
+    requires { ⌜ Ready (now file) variables actions (now row) × (length (now plan) ≤ maxList) ⌝ }
     ensures { λ r. ⌜ ContractsTo (now (file .entry)) (now (list .entry)) (now (plan .exit)) r ⌝ }
 {
-    let starts = &row[..Task::FIRSTS];
-    let firsts = &row[Task::FIRSTS..Task::NODES];
-    let nodes = &row[Task::NODES..Task::ROW];
     let last = 1 + variables;
     let sizes = &file[1..last];
-    let action_at = &starts[..actions];
     let mut first_step = [0; 33];
     let mut first_edge = [0; 64];
-    number_steps(
-        file,
-        sizes,
-        action_at,
-        firsts,
-        nodes,
-        &mut first_step,
-        &mut first_edge,
-    );
+    number_steps(file, sizes, actions, row, &mut first_step, &mut first_edge);
     let mut action_of = [0; 576];
     note_actions(&first_step[..actions], &mut action_of);
     let mut state = initial(file, variables);
@@ -70,9 +59,8 @@ pub fn follow_plan(
         file,
         sizes,
         1 + 2 * variables,
-        action_at,
-        firsts,
-        nodes,
+        actions,
+        row,
         &first_step,
         &first_edge,
         &action_of,
@@ -82,25 +70,24 @@ pub fn follow_plan(
     )
 }
 
-// Follows a list from a state on, and notes the actions that it comes from. `first_step` has the number of each action's start, and past the last action the
+// Follows a list from a state on, by the row of the index, and notes the actions that it comes from. `first_step` has the number of each action's start, and past the last action the
 // number of steps; `first_edge` has that of each node's first edge; `action_of` has at the number of each start 1 and the number of its action.
 fn follow_list(
     file: &[u8],
     sizes: &[u8],
     goal: usize,
-    action_at: &[usize],
-    first_node: &[usize],
-    node_at: &[usize],
+    actions: usize,
+    row: &[usize],
     first_step: &[usize],
     first_edge: &[usize],
     action_of: &[u8],
     list: &[u16],
     state: &mut [u8],
-    actions: &mut [u16],
+    plan: &mut [u16],
 ) -> Followed
-    requires { ⌜ Followable (now file) (now sizes) (now «action_at») (now «first_node») (now «node_at») (now «first_step») (now «first_edge») (now «action_of») × Inside (now sizes) (now state) ⌝ }
-    requires { ⌜ length (now actions) ≤ maxList ⌝ }
-    ensures { λ r. ⌜ PlanTo (now (file .entry)) (now (sizes .entry)) goal (now («action_at» .entry)) (now («first_node» .entry)) (now («node_at» .entry)) (now (list .entry)) (now (state .entry)) (now (actions .exit)) r ⌝ }
+    requires { ⌜ Followable (now file) (now sizes) actions (now row) (now «first_step») (now «first_edge») (now «action_of») × Inside (now sizes) (now state) ⌝ }
+    requires { ⌜ length (now plan) ≤ maxList ⌝ }
+    ensures { λ r. ⌜ PlanTo (now (file .entry)) (now (sizes .entry)) goal actions (now (row .entry)) (now (list .entry)) (now (state .entry)) (now (plan .exit)) r ⌝ }
 {
     let mut sum: u32 = 0;
     let mut count: usize = 0;
@@ -110,18 +97,18 @@ fn follow_list(
         if action == 0 {
             return Followed::Astray;
         }
-        if actions.len() <= count {
+        if plan.len() <= count {
             return Followed::Astray;
         }
         let number = action - 1;
-        let first = offset_within(first_node, number, node_at.len());
-        let row = offset_within(first_node, number, first_edge.len());
+        let own = own_nodes(row, number);
+        let first = offset_within(row, Task::FIRSTS + number, first_edge.len());
         let answer = follow_action(
             file,
             sizes,
-            offset_at(action_at, number),
-            &node_at[first..],
-            &first_edge[row..],
+            offset_at(row, number),
+            &row[own..],
+            &first_edge[first..],
             offset_at(first_step, action),
             state,
             list,
@@ -130,7 +117,7 @@ fn follow_list(
         let Trail::To(end, cost) = answer else {
             return Followed::Astray;
         };
-        actions[count] = number as u16;
+        plan[count] = number as u16;
         count += 1;
         sum += cost;
         i = end;

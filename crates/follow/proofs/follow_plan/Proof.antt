@@ -11,7 +11,6 @@ use Rattle.numbering.specs.NumberLaws.{rows-there, all-tested}
 use Rattle.numbering.specs.ExpandLaws.{init-inside}
 use Rattle.numbering.specs.NoteLaws.{start-below, note-in}
 use Rattle.follow.specs.FollowLaws.{followable, followed-answers}
-use Rattle.taskfile.specs.TaskIndexLaws.{row-long}
 use borrow.Author.Needs.{needs}
 use Rattle.follow.proofs.follow_plan.Statement.{statement}
 use Rattle.follow.proofs.follow_plan.Tie as tie
@@ -27,82 +26,63 @@ begins c = starts (now (c .args .file)) (c .pre .0)
 sizes-are : (c : tie.Start) → take (1 + c .args .variables - 1) (drop 1 (now (c .args .file))) ≡ task c .task .sizes
 sizes-are c = let same : 1 + c .args .variables - 1 ≡ c .args .variables = omega arith in ap (λ (k : ℕ). take k (drop 1 (now (c .args .file)))) same ∙ begins c .sizes
 
--- the offset of each action
-few : (c : tie.Start) → c .args .actions ≤ length (take 96 (now (c .args .row)))
-few c = omega (arith, begins c .actions, c .pre .0 .starts-long)
-
-starts-long : (c : tie.Start) → length (take (c .args .actions) (take 96 (now (c .args .row)))) ≡ c .args .actions
-starts-long c = length-take-le (c .args .actions) (take 96 (now (c .args .row))) (few c)
-
 -- the number of each start
-abbrev first-step : tie.After-first-edge2 → List ℕ
-first-step c = c .before .before .number-steps .last .1 .1 .1 .1 .1 .0
+abbrev first-step : (c : tie.After-first-edge2) → List ℕ
+first-step c = c .before .before .number-steps .last .1 .1 .1 .1 .0
 
-numbers : (c : tie.After-first-edge2) → c .before .before .before .before .before .before .before .before .before .before .before .before .before .before .args .actions ≤ length (first-step c)
-numbers c = omega (arith, begins (c .before .before .before .before .before .before .before .before .before .before .before .before .before .before) .actions, c .before .first-step2 .given)
+numbers : (c : tie.After-first-edge2) → c .before .before .before .before .before .before .before .before .before .before .args .actions ≤ length (first-step c)
+numbers c = omega (arith, begins (c .before .before .before .before .before .before .before .before .before .before) .actions, c .before .first-step2 .given)
 
 -- the state has a value for each variable, and they are the initial ones
-long : (c : tie.After-initial) → c .before .before .before .before .before .before .before .before .before .before .before .before .before .before .before .before .before .before .before .args .variables ≤ length (c .initial .result)
-long c = omega (arith, c .initial .ensures .1, begins (c .before .before .before .before .before .before .before .before .before .before .before .before .before .before .before .before .before .before .before) .variables)
+long : (c : tie.After-initial) → c .before .before .before .before .before .before .before .before .before .before .before .before .before .before .before .args .variables ≤ length (c .initial .result)
+long c = omega (arith, c .initial .ensures .1, begins (c .before .before .before .before .before .before .before .before .before .before .before .before .before .before .before) .variables)
 
-state-is : (c : tie.After-initial) → take (c .before .before .before .before .before .before .before .before .before .before .before .before .before .before .before .before .before .before .before .args .variables) (c .initial .result) ≡ task (c .before .before .before .before .before .before .before .before .before .before .before .before .before .before .before .before .before .before .before) .task .init
-state-is c = c .initial .ensures .0 ∙ begins (c .before .before .before .before .before .before .before .before .before .before .before .before .before .before .before .before .before .before .before) .init
+state-is : (c : tie.After-initial) → take (c .before .before .before .before .before .before .before .before .before .before .before .before .before .before .before .args .variables) (c .initial .result) ≡ task (c .before .before .before .before .before .before .before .before .before .before .before .before .before .before .before) .task .init
+state-is c = c .initial .ensures .0 ∙ begins (c .before .before .before .before .before .before .before .before .before .before .before .before .before .before .before) .init
 
 note-actions-requires : tie.Need-note-actions-requires
 note-actions-requires c κs =
-    let s = c .before .before .before .before .before .before .before .before .before .before .before .before .before .before .before .before in
-    let w = c .before .before in
-    let n = length-take-le (s .args .actions) (first-step w) (numbers w) in
-    (refl, omega (arith, n, begins s .actions), start-below (now (s .args .file)) (s .pre .0) (sizes-are s) (c .before .before .before .before .number-steps .ensures) (numbers w))
+    let s = c .before .before .before .before .before .before .before .before .before .before .before .before in
+    let n = length-take-le (s .args .actions) (first-step (c .before .before)) (numbers (c .before .before)) in
+    (refl, omega (arith, n, begins s .actions), start-below (now (s .args .file)) (s .pre .0) (sizes-are s) (c .before .before .before .before .number-steps .ensures) (numbers (c .before .before)))
 
 follow-list-requires : tie.Need-follow-list-requires
 follow-list-requires c κs =
-    let s = c .before .before .before .before .before .before .before .before .before .before .before .before .before .before .before .before .before .before .before .before .before .before .before .before in
+    let s = c .before .before .before .before .before .before .before .before .before .before .before .before .before .before .before .before .before .before .before .before in
     let f = now (s .args .file) in
-    let w = c .before .before .before .before .before .before .before .before .before .before in
     let numbered = c .before .before .before .before .before .before .before .before .before .before .before .before .number-steps .ensures in
-    let noted = note-in f (s .pre .0) (sizes-are s) numbered (numbers w) refl (c .before .before .before .before .before .before .before .note-actions .ensures) in (
-      (followable f (s .pre .0) (sizes-are s) numbered noted, init-inside f (s .pre .0) (sizes-are s) (state-is (c .before .before .before .before .before))),
-      s .pre .1,
-    )
+    let noted = note-in f (s .pre .0) (sizes-are s) numbered (numbers (c .before .before .before .before .before .before .before .before .before .before)) refl (c .before .before .before .before .before .before .before .note-actions .ensures) in
+    ((followable f (s .pre .0) (sizes-are s) numbered noted, init-inside f (s .pre .0) (sizes-are s) (state-is (c .before .before .before .before .before))), s .pre .1)
 
 returns : tie.Need-returns
 returns c =
-    let s = c .before .before .before .before .before .before .before .before .before .before .before .before .before .before .before .before .before .before .before .before .before .before .before .before .before .before .before .before in
-    let out = c .before .before .before .follow-list .last .1 .1 .1 .1 .1 .1 .1 .1 .1 .1 .1 .0 in
-    followed-answers (now (s .args .file)) (s .pre .0) (now (s .args .list)) out (sizes-are s) (state-is (c .before .before .before .before .before .before .before .before .before)) (omega (arith, c .before .plan .given, s .pre .1)) (c .before .before .before .follow-list .result) (c .before .before .before .follow-list .ensures)
+    let s = c .before .before .before .before .before .before .before .before .before .before .before .before .before .before .before .before .before .before .before .before .before .before .before .before in
+    let follow = c .before .before .before .follow-list in
+    followed-answers (now (s .args .file)) (s .pre .0) (now (s .args .list)) (follow .last .1 .1 .1 .1 .1 .1 .1 .1 .1 .1 .0) (sizes-are s) (state-is (c .before .before .before .before .before .before .before .before .before)) (omega (arith, c .before .plan .given, s .pre .1)) (follow .result) (follow .ensures)
 
 pub follow-plan-spec : {M : Type 1} → statement M
 follow-plan-spec =
     tie.close
     (tie.spec
-    (λ c. sym (c .before .before .before .before .before .pre .0 .starts-long))
+    (λ c. omega (arith, begins (c .before .before .before .before) .variables))
     (λ c. search needs)
     (λ c. search needs)
-    (λ c. omega (arith, row-long _ (now (c .before .before .before .before .before .args .row)) (c .before .before .before .before .before .pre .0)))
+    (λ c. omega (arith, begins (c .before .before .before .before) .fits))
     (λ c. search needs)
     (λ c. search needs)
-    (λ c. omega (arith, row-long _ (now (c .before .before .before .before .before .before .args .row)) (c .before .before .before .before .before .before .pre .0)))
-    (λ c. omega (arith, begins (c .before .before .before .before .before .before .before) .variables))
-    (λ c. search needs)
-    (λ c. search needs)
-    (λ c. omega (arith, begins (c .before .before .before .before .before .before .before) .fits))
-    (λ c. sym (starts-long (c .before .before .before .before .before .before .before .before .before)))
-    (λ c. search needs)
-    (λ c. search needs)
-    (λ c κs. let s = c .before .before .before .before .before .before .before .before .before .before .before in (omega (arith, starts-long s, begins s .actions), (rows-there (now (s .args .file)) (s .pre .0) (sizes-are s) (omega arith), all-tested (now (s .args .file)) (s .pre .0))))
+    (λ c κs. let s = c .before .before .before .before .before .before .before in (omega (arith, begins s .actions), (rows-there (now (s .args .file)) (s .pre .0) (sizes-are s) (omega arith), all-tested (now (s .args .file)) (s .pre .0))))
     numbers
-    (λ c. sym (length-take-le (c .before .before .before .before .before .before .before .before .before .before .before .before .before .before .before .args .actions) (first-step (c .before)) (numbers (c .before))))
+    (λ c. sym (length-take-le (c .before .before .before .before .before .before .before .before .before .before .before .args .actions) (first-step (c .before)) (numbers (c .before))))
     (λ c. search needs)
     note-actions-requires
-    (λ c κs. let b = begins (c .before .before .before .before .before .before .before .before .before .before .before .before .before .before .before .before .before .before) in (b .variables, b .fits))
-    (λ c. omega (arith, begins (c .before .before .before .before .before .before .before .before .before .before .before .before .before .before .before .before .before .before .before) .variables))
-    (λ c. omega (arith, begins (c .before .before .before .before .before .before .before .before .before .before .before .before .before .before .before .before .before .before .before) .variables))
+    (λ c κs. let b = begins (c .before .before .before .before .before .before .before .before .before .before .before .before .before .before) in (b .variables, b .fits))
+    (λ c. omega (arith, begins (c .before .before .before .before .before .before .before .before .before .before .before .before .before .before .before) .variables))
+    (λ c. omega (arith, begins (c .before .before .before .before .before .before .before .before .before .before .before .before .before .before .before) .variables))
     (λ c. search needs)
     (λ c. search needs)
     (λ c. search needs)
     (λ c. long (c .before .before .before))
-    (λ c. sym (length-take-le (c .before .before .before .before .before .before .before .before .before .before .before .before .before .before .before .before .before .before .before .before .before .before .before .args .variables) (c .before .before .before .before .initial .result) (long (c .before .before .before .before))))
+    (λ c. sym (length-take-le (c .before .before .before .before .before .before .before .before .before .before .before .before .before .before .before .before .before .before .before .args .variables) (c .before .before .before .before .initial .result) (long (c .before .before .before .before))))
     follow-list-requires
     (λ c. search needs)
     returns)
