@@ -10,7 +10,7 @@ use taskfile::Counted;
 use taskfile::Task;
 ghost use mathlib.Core.Path.{_≡_};
 ghost use lib.ListN.{length};
-ghost use Rattle.taskfile.specs.Index.{indexOf, Ready};
+ghost use Rattle.taskfile.specs.Index.{Ready};
 ghost use Rattle.carry.specs.CarryFile.{contracted, answerIn, bufferIn};
 ghost use Rattle.carry.specs.Answers.{carriedAnswer};
 
@@ -42,7 +42,7 @@ fn contract_in(
     list: &[u16],
     out: &mut [u16],
 ) -> Carried
-    requires { ⌜ Ready (now file) (indexOf variables actions (now row)) ⌝ }
+    requires { ⌜ Ready (now file) variables actions (now row) ⌝ }
     ensures { λ r. ⌜ carriedAnswer r ≡ answerIn (length (now (out .entry))) (contracted (now (file .entry)) (now (list .entry))) ⌝ }
     ensures { λ r. ⌜ now (out .exit) ≡ bufferIn (now (out .entry)) (contracted (now (file .entry)) (now (list .entry))) ⌝ }
 {
@@ -68,7 +68,7 @@ fn contract_written(
     list: &[u16],
     out: &mut [u16],
 ) -> Carried
-    requires { ⌜ Ready (now file) (indexOf variables actions (now row)) ⌝ }
+    requires { ⌜ Ready (now file) variables actions (now row) ⌝ }
     ensures { λ r. ⌜ carriedAnswer r ≡ answerIn (length (now (out .entry))) (contracted (now (file .entry)) (now (list .entry))) ⌝ }
     ensures { λ r. ⌜ now (out .exit) ≡ bufferIn (now (out .entry)) (contracted (now (file .entry)) (now (list .entry))) ⌝ }
 {

@@ -10,7 +10,7 @@ ghost use mathlib.Core.Path.{_≡_};
 ghost use Prim.Native.Nat.{ℕ, _+_, _≤_, _<_};
 ghost use lib.ListN.{length, getD, replicate};
 ghost use Rattle.facts.specs.Write.{Wrote};
-ghost use Rattle.taskfile.specs.Index.{indexOf, Ready};
+ghost use Rattle.taskfile.specs.Index.{Ready};
 ghost use Rattle.carry.specs.CarryFile.{contracted, answerIn, bufferIn};
 ghost use Rattle.carry.specs.Answers.{carriedAnswer, startsAnswer};
 ghost use Rattle.numbering.specs.InPlace.{NotedIn, contractIn, countIn, ProbePlanOf};
@@ -25,7 +25,7 @@ pub fn contract_plan(
     sum: u32,
     out: &mut [u16],
 ) -> Carried
-    requires { ⌜ Ready (now file) (indexOf variables actions (now row)) × ProbePlanOf (now file) (now list) sum ⌝ }
+    requires { ⌜ Ready (now file) variables actions (now row) × ProbePlanOf (now file) (now list) sum ⌝ }
     ensures { λ r. ⌜ carriedAnswer r ≡ answerIn (length (now (out .entry))) (contracted (now (file .entry)) (now (list .entry))) ⌝ }
     ensures { λ r. ⌜ now (out .exit) ≡ bufferIn (now (out .entry)) (contracted (now (file .entry)) (now (list .entry))) ⌝ }
 {
@@ -44,21 +44,17 @@ pub fn contract_plan(
 
 // Notes at each start's number 1 and the number of its action; at every other step's 0 stays.
 fn note_starts(file: &[u8], variables: usize, actions: usize, row: &[usize], action_of: &mut [u8])
-    requires { ⌜ Ready (now file) (indexOf variables actions (now row)) × (now «action_of» ≡ replicate 576 0) ⌝ }
+    requires { ⌜ Ready (now file) variables actions (now row) × (now «action_of» ≡ replicate 576 0) ⌝ }
     ensures { λ r. ⌜ NotedIn (now (file .entry)) (now («action_of» .exit)) ⌝ }
 {
-    let starts = &row[..Task::FIRSTS];
-    let firsts = &row[Task::FIRSTS..Task::NODES];
-    let nodes = &row[Task::NODES..Task::ROW];
     let last = 1 + variables;
     let mut first_step = [0; 33];
     let mut first_edge = [0; 64];
     number_steps(
         file,
         &file[1..last],
-        &starts[..actions],
-        firsts,
-        nodes,
+        actions,
+        row,
         &mut first_step,
         &mut first_edge,
     );
