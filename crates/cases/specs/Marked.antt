@@ -5,7 +5,7 @@ use Prim.Native.Nat.{ℕ}
 use native.Mathlib.Omega.{arith}
 use mathlib.Core.List.{List, [], _∷_, _++_}
 use lib.ListN.{length, drop-of-length-le}
-use Rattle.facts.specs.Read.{Read, accepted, refused}
+use Rattle.facts.specs.Read.{accepted, refused}
 use Rattle.facts.specs.Bytes.{numberAt}
 use Rattle.facts.specs.Partial.{Partial, empty, writePartial}
 use Rattle.facts.specs.State.{checkState}

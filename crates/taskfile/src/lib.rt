@@ -1,12 +1,9 @@
 // Task files: what they are, their limits, and what the row of an index has.
 use facts::Refusal;
 
-// How many variables and actions a task has. What else its index has stands in a row that the caller lends: where each action starts, and then where its effect and its incoming weight stand; which of all
-// nodes is its first, where each node starts and which variable it tests.
-pub struct Task {
-    pub variables: usize,
-    pub actions: usize,
-}
+// A task file: its limits, and what the row of its index has, which the caller of the index lends: where each action starts, where its effect and its incoming weight stand, which of all nodes is its first, where each
+// node starts and which variable it tests.
+pub struct Task {}
 
 impl Task {
     pub const MAX_VARIABLES: u64 = 24;

@@ -1,4 +1,5 @@
 // The commands on a file that was read. Each gets its bytes, the number of its next argument, and whether a refusal is to be explained.
+use crate::command::Command;
 use crate::describing::steps;
 use crate::input::read_list;
 use crate::input::read_state;
@@ -11,7 +12,6 @@ use crate::output::refuse;
 use crate::output::save;
 use crate::output::within;
 use crate::output::within16;
-use crate::words::Command;
 use carry::Carried;
 use compilation::Compiled;
 use estimate::Estimated;

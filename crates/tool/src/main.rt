@@ -1,10 +1,11 @@
 // The bench tool: the operations on files that the arguments name, with texts of numbers in and out.
+mod command;
 mod commands;
 mod describing;
 mod input;
 mod output;
-mod words;
 
+use crate::command::Command;
 use crate::commands::Question;
 use crate::commands::is_accepted;
 use crate::commands::on_list;
@@ -15,7 +16,6 @@ use crate::input::read_file;
 use crate::input::read_number;
 use crate::output::failed;
 use crate::output::usage;
-use words::Command;
 
 // One byte more than the longest file has that is accepted, a probe file.
 const FILE: usize = 76215;
@@ -29,8 +29,8 @@ fn main() {
 
 // The command, with its first argument's number, and whether a refusal is to be explained.
 fn start(first: u8, explain: bool) {
-    let command = words::first_word();
-    if !words::takes(command, first) {
+    let command = command::first_word();
+    if !command::takes(command, first) {
         return usage();
     }
     let mut file = [0; FILE];
@@ -44,7 +44,7 @@ fn start(first: u8, explain: bool) {
 
 // The command on the file that its first argument names.
 fn on_file(command: Command, file: &[u8], first: u8, explain: bool) {
-    if words::is_about_probe(command, is_probe_name(first as usize)) {
+    if command::is_about_probe(command, is_probe_name(first as usize)) {
         if is_accepted(probe::check(file), explain) {
             on_probe(command, file, first, explain);
         }

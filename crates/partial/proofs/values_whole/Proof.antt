@@ -6,7 +6,6 @@ use lib.Bits.{and-le-r}
 use lib.Count.{ones}
 use lib.ListN.{length}
 use denote.Ref.{now}
-use borrow.Author.Needs.{needs}
 use Rattle.facts.specs.BitsLaws.{lowest-below, ones-cleared}
 use Rattle.facts.specs.Fields.{nextOf}
 use Rattle.facts.specs.FieldLaws.{value-inside, value-outside}

@@ -4,7 +4,7 @@ use borrow.Author.Needs.{needs}
 use borrow.Fn.Kinds.{In}
 use borrow.Fn.PlainCycle.{Measures, is, falls, and}
 use native.Mathlib.Omega.{arith}
-use Rattle.text.specs.AppendLaws.{adds-long, digits-one, digits-more}
+use Rattle.text.specs.AppendLaws.{digits-one, digits-more}
 use Rattle.text.proofs.append.append_number.Reads as append-number
 use Rattle.text.proofs.append.append_number.Kinds as append-number-kinds
 use Rattle.text.proofs.append.+append_number.Lts-append_number as append-number-lts
