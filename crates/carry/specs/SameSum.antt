@@ -1,10 +1,10 @@
 -- Demand 3 as one theorem over files, `same-sum`, and demand 2's sentence on plans carried across and back, `across-and-back`. Each sentence of a demand is
 -- quoted above what states it. The proofs stand at the end and in SameSumLaws.antt.
 --
--- The words: a task is accepted if `readTask` answers it for its file. `Plan t list c` (crate `task`) and `ProbePlan p list c` (crate `probe`) say that a list
+-- The words: a task is accepted if `readTask` answers it for its file. `Plan t list c` (crate `taskfile`) and `ProbePlan p list c` (crate `probefile`) say that a list
 -- of any length applies step by step, ends where the goal holds, and has the sum c, a number of any size. `expand t list` (crate `plans`) is the probe list
 -- that comes from a source plan: for each action in turn its start, the edge for the state's value at each node passed, and its end. The contracts
--- say what the operations answer and write: `compileFile` and `compiledBuffer` for compiling (crate `compile`), `expanded` and `contracted` for the two
+-- say what the operations answer and write: `compileFile` and `compiledBuffer` for compiling (crate `compilation`), `expanded` and `contracted` for the two
 -- translators, each with `answerIn` and `bufferIn` (CarryFile.antt).
 use mathlib.Core.Path.{_≡_, sym, ap, subst, _∙_}
 use mathlib.Core.Logic.{_↔_}
