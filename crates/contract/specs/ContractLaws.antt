@@ -179,11 +179,6 @@ module _ {f written : List ℕ} (w : WrittenFrom f written) (list : List ℕ) wh
       let a = through (atMost maxProbeList list) (rw (w .probe) at r) in
       record { t = w .t; task = w .task; few = a .first; sums = a .then }
 
--- The file is accepted.
-pub plan-checks : {f list : List ℕ} {sum : ℕ} → ProbePlanOf f list sum → checkTask f ≡ accepted tt
-unfolding checkTask
-plan-checks q = rw (q .task)
-
 module _ {f list : List ℕ} {sum : ℕ} (q : ProbePlanOf f list sum) {action-of : List ℕ} (n : NotedIn f action-of) where
   abbrev noted : Noted (q .t .actions) action-of
   noted = n .noted (q .t) (q .task)

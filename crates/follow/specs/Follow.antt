@@ -57,8 +57,9 @@ ActionTo f sizes at offsets s list from after Astray = Unit {0}
 
 -- ---- a whole list
 
--- what a list is followed by: each action is well-formed, the variables that its nodes test are noted, its steps have their numbers, at most 576, and each start has its action
+-- what a list is followed by: the row has each action, each is well-formed, the variables that its nodes test are noted, its steps have their numbers, at most 576, and each start has its action
 pub record Followable (f sizes : List ℕ) (count : ℕ) (row first-step first-edge action-of : List ℕ) : Type 0 where
+  pub long : count ≤ length row
   pub well-formed : (a : ℕ) → a < count → WfAction sizes (actionIn f sizes (getD row a 0) (drop (ownFrom row a) row))
   pub tested : AllTested f count row
   pub numbered : Numbered (actionsIn f sizes row 0 count) row first-step first-edge

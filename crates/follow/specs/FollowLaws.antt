@@ -1,5 +1,5 @@
 -- Laws of following a probe list in place: the path of one action entry by entry, then the actions one after the other.
-use mathlib.Core.Path.{_≡_, refl, sym, ap, ap₂, subst, subst₂, _∙_}
+use mathlib.Core.Path.{_≡_, refl, sym, ap, ap₂, subst, _∙_}
 use mathlib.Core.Bool.{Bool, true, false}
 use mathlib.Core.Option.{Option, none, some}
 use Prim.Native.Nat.{ℕ, suc, _+_, _*_, _-_, _≤_, _<_}
@@ -136,13 +136,13 @@ noted-start {actions} {action-of} n {r} {action} e some-start = go (startedBy 0 
 
 -- What an action is followed by, in a state inside the domains.
 pub walkable-there : {f sizes : List ℕ} {count : ℕ} {row first-step first-edge action-of s : List ℕ} → Followable f sizes count row first-step first-edge action-of → Inside sizes s
-    → {a at next r : ℕ} {own own-edges : List ℕ} → a < count → at ≡ getD row a 0 → own ≡ drop (ownFrom row a) row → own-edges ≡ drop (getD row (firstsFrom + a) 0) first-edge
-    → next ≡ getD first-step (1 + a) 0 → r ≡ firstStep (actionsIn f sizes row 0 count) a → Walkable sizes (actionIn f sizes at own .nodes) own-edges r next s
-walkable-there {f} {sizes} {count} {row} {first-step} p inside {a} known e o oe n r =
+    → {a next r : ℕ} {own own-edges : List ℕ} → a < count → own ≡ drop (ownFrom row a) row → own-edges ≡ drop (getD row (firstsFrom + a) 0) first-edge
+    → next ≡ getD first-step (1 + a) 0 → r ≡ firstStep (actionsIn f sizes row 0 count) a → Walkable sizes (actionIn f sizes (getD row a 0) own .nodes) own-edges r next s
+walkable-there {f} {sizes} {count} {row} {first-step} p inside {a} known o oe n r =
     let element = actions-at f sizes row a count known in
     let one : 1 + a ≡ suc a = omega arith in
     let after = n ∙ ap (λ (k : ℕ). getD first-step k 0) one ∙ p .numbered .numbers (suc a) (omega (arith, at-length element)) ∙ total-next stepCount element in
-    rw (e, o, oe, r, after)
+    rw (o, oe, r, after)
     (record {
       well-formed = p .well-formed a known .nodes;
       inside = inside;
@@ -184,12 +184,12 @@ module _ {f sizes : List ℕ} {count : ℕ} {row : List ℕ} {goal : Partial} {l
 
   module _ {from before now s : List ℕ} {i sum written : ℕ} (g : Following f sizes count row goal list from before now s i sum written) where
     -- One action more, whose entries come next.
-    pub following-next : {a at next′ cost : ℕ} {own after : List ℕ} → a < count → at ≡ getD row a 0 → own ≡ drop (ownFrom row a) row → i < length list → getD list i 0 ≡ firstStep (actionsIn f sizes row 0 count) a
-        → WfAction sizes (actionIn f sizes (getD row a 0) (drop (ownFrom row a) row)) → written < length before → Action-passed f sizes at own s list i after next′ cost
+    pub following-next : {a next′ cost : ℕ} {own after : List ℕ} → a < count → own ≡ drop (ownFrom row a) row → i < length list → getD list i 0 ≡ firstStep (actionsIn f sizes row 0 count) a
+        → WfAction sizes (actionIn f sizes (getD row a 0) (drop (ownFrom row a) row)) → written < length before → Action-passed f sizes (getD row a 0) own s list i after next′ cost
         → Following f sizes count row goal list from before (set now written a) after next′ (sum + cost) (written + 1)
     unfolding moveBy runFrom
-    following-next {a} {at} {next′} {cost} {own} {after} known e o l start wf room passed =
-        let p = subst₂ (λ (k : ℕ) (z : List ℕ). Action-passed f sizes k z s list i after next′ cost) e o passed in
+    following-next {a} {next′} {cost} {own} {after} known o l start wf room passed =
+        let p = subst (λ (z : List ℕ). Action-passed f sizes (getD row a 0) z s list i after next′ cost) o passed in
         let element = actions-at f sizes row a count known in
         let x = actionIn f sizes (getD row a 0) (drop (ownFrom row a) row) in
         record {
@@ -239,6 +239,7 @@ module _ (f : List ℕ) {variables count : ℕ} {row : List ℕ} (ready : Ready 
   pub followable : {sizes first-step first-edge action-of : List ℕ} → sizes ≡ t .sizes → Numbered (actionsIn f sizes row 0 count) row first-step first-edge → NotedIn f action-of
       → Followable f sizes count row first-step first-edge action-of
   followable {action-of = action-of} e n noted = record {
+    long = omega (arith, ready .long, starts f ready .actions);
     well-formed = actions-wf f ready e;
     tested = all-tested f ready;
     numbered = n;

@@ -106,7 +106,7 @@ fn follow_list(
         let answer = follow_action(
             file,
             sizes,
-            offset_at(row, number),
+            row[number],
             &row[own..],
             &first_edge[first..],
             offset_at(first_step, action),

@@ -29,11 +29,12 @@ use Rattle.carry.specs.declared.Carried.the-variants.{List as Listed, Refused a
 pub record AllTested (f : List ℕ) (count : ℕ) (row : List ℕ) : Type 0 where
   pub own : (a : ℕ) → a < count → Tested f (drop (ownFrom row a) row) (nodeCount f (getD row a 0))
 
--- There are at most 576 steps, the row has for each action how many nodes the actions before it have, and there is room for so many nodes.
+-- There are at most 576 steps, the row has each action and how many nodes the actions before it have, and there is room for so many nodes.
 pub record Rows (actions : List Action) (row : List ℕ) (room : ℕ) : Type 0 where
   pub few : total stepCount actions ≤ 576
   pub first-is : {a : ℕ} {x : Action} → At actions a x → getD row (firstsFrom + a) 0 ≡ nodesBefore actions a
   pub fits : total (λ x. length (x .nodes)) actions ≤ room
+  pub long : length actions ≤ length row
 
 -- `first-edge` has the number of the first edge of each of these nodes, where `from` is the first node's
 pub record Edges (nodes : List Node) (from : ℕ) (first-edge : List ℕ) : Type 0 where

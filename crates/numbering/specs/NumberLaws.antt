@@ -232,7 +232,7 @@ module _ (f : List ℕ) {variables count : ℕ} {row : List ℕ} (ready : Ready 
   pub rows-there : {sizes : List ℕ} {room : ℕ} → sizes ≡ t .sizes → maxNodes ≤ room → Rows (actionsIn f sizes row 0 count) row room
   rows-there {room = room} e l =
       subst (λ (xs : List Action). Rows xs row room) (sym (actions-are e))
-      (record { few = steps-few; first-is = λ {a} {x} h. ready .located .first-is t (reads f ready) a x h; fits = omega (arith, task-limits f (reads f ready) .nodes) })
+      (record { few = steps-few; first-is = λ {a} {x} h. ready .located .first-is t (reads f ready) a x h; fits = omega (arith, task-limits f (reads f ready) .nodes); long = omega (arith, task-limits f (reads f ready) .actions, ready .long) })
 
   -- The variables of all nodes are noted.
   pub all-tested : AllTested f count row

@@ -32,7 +32,7 @@ pub fn number_steps(
     while a < actions {
         first_step[a] = next;
         let own = own_nodes(row, a);
-        let count = node_count(file, offset_at(row, a));
+        let count = node_count(file, row[a]);
         let first = offset_within(row, Task::FIRSTS + a, first_edge.len());
         next = 1
             + number_edges(

@@ -193,10 +193,10 @@ module _ (f sizes row : List ℕ) (count : ℕ) where
   pub actions-start : (out : List ℕ) → Going (writeEach writeStep (flat (actionSteps n) 0 (actionsIn f sizes row 0 count))) (actionsFrom 0) out out 0
   actions-start out = rw left-start (going-start (writeEach writeStep (flat (actionSteps n) 0 (actionsIn f sizes row 0 count))) out)
 
-  pub actions-cut : (a : ℕ) {at : ℕ} {own : List ℕ} → at ≡ getD row a 0 → own ≡ drop (ownFrom row a) row → a < count
-      → Cut (actionsFrom a) (writeEach writeStep (actionSteps n a (actionIn f sizes at own))) (actionsFrom (a + 1))
-  actions-cut a e g h = record {
-    cut = ap (writeEach writeStep) (left-next a h) ∙ each-append writeStep (actionSteps n a (actionIn f sizes (getD row a 0) (drop (ownFrom row a) row))) (stepsLeft (a + 1)) ∙ rw (e, g);
+  pub actions-cut : (a : ℕ) {own : List ℕ} → own ≡ drop (ownFrom row a) row → a < count
+      → Cut (actionsFrom a) (writeEach writeStep (actionSteps n a (actionIn f sizes (getD row a 0) own))) (actionsFrom (a + 1))
+  actions-cut a g h = record {
+    cut = ap (writeEach writeStep) (left-next a h) ∙ each-append writeStep (actionSteps n a (actionIn f sizes (getD row a 0) (drop (ownFrom row a) row))) (stepsLeft (a + 1)) ∙ rw g;
   }
 
   pub actions-none : (a : ℕ) → count - a ≡ 0 → actionsFrom a ≡ []

@@ -22,7 +22,7 @@ ghost use Rattle.taskfile.specs.PartsInPlace.{nodeIn, nodesIn, actionIn, action
 
 // The steps of all `count` actions, by the row of the index.
 pub fn put_actions(file: &[u8], sizes: &[u8], count: usize, row: &[usize], out: &mut [u8]) -> usize
-    requires { ⌜ (length (now sizes) ≤ 24) × (count ≤ 32) × Fronts (now file) count (now row) ⌝ }
+    requires { ⌜ (length (now sizes) ≤ 24) × (count ≤ 32) × (count ≤ length (now row)) × Fronts (now file) count (now row) ⌝ }
     requires { ⌜ ((a : ℕ) → a < count → Stood (now file) (now sizes) (getD (now row) a 0) (drop (ownFrom (now row) a) (now row))) ⌝ }
     requires { ⌜ length (writeEach writeStep (flat (actionSteps (length (now sizes))) 0 (actionsIn (now file) (now sizes) (now row) 0 count))) ≤ length (now out) ⌝ }
     ensures { λ r. ⌜ Wrote (writeEach writeStep (flat (actionSteps (length (now (sizes .entry)))) 0 (actionsIn (now (file .entry)) (now (sizes .entry)) (now (row .entry)) 0 count))) (now (out .entry)) (now (out .exit)) r ⌝ }
@@ -34,7 +34,7 @@ pub fn put_actions(file: &[u8], sizes: &[u8], count: usize, row: &[usize], out: 
         at += put_action(
             file,
             sizes,
-            offset_at(row, a),
+            row[a],
             offset_at(row, Task::EFFECTS + a),
             offset_at(row, Task::INCOMING + a),
             &row[own..],

@@ -27,7 +27,7 @@ pub struct Extent {
 
 // The steps of all `count` actions, by the row of the index.
 pub fn extent_of(file: &[u8], sizes: &[u8], count: usize, row: &[usize]) -> Extent
-    requires { ⌜ (length (now sizes) ≤ 24) × (count ≤ 32) × Fronts (now file) count (now row) ⌝ }
+    requires { ⌜ (length (now sizes) ≤ 24) × (count ≤ 32) × (count ≤ length (now row)) × Fronts (now file) count (now row) ⌝ }
     requires { ⌜ ((a : ℕ) → a < count → Stood (now file) (now sizes) (getD (now row) a 0) (drop (ownFrom (now row) a) (now row))) ⌝ }
     ensures { λ r. ⌜ r .steps ≡ length (flat (actionSteps (length (now (sizes .entry)))) 0 (actionsIn (now (file .entry)) (now (sizes .entry)) (now (row .entry)) 0 count)) ⌝ }
     ensures { λ r. ⌜ r .bytes ≡ total stepBytes (flat (actionSteps (length (now (sizes .entry)))) 0 (actionsIn (now (file .entry)) (now (sizes .entry)) (now (row .entry)) 0 count)) ⌝ }
@@ -36,7 +36,7 @@ pub fn extent_of(file: &[u8], sizes: &[u8], count: usize, row: &[usize]) -> Exte
     let mut bytes: usize = 0;
     let mut a: usize = 0;
     while a < count {
-        let at = offset_at(row, a);
+        let at = row[a];
         let incoming = offset_at(row, Task::INCOMING + a);
         let own = own_nodes(row, a);
         let edges = edge_count(file, sizes, &row[own..], byte_at(file, incoming + 2));

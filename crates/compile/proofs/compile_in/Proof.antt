@@ -7,6 +7,7 @@ use lib.ListN.{length, getD, take, drop}
 use borrow.Rule.Slice.PartMut.{putMid}
 use Rattle.facts.specs.Write.{Wrote}
 use Rattle.taskfile.specs.Row.{ownFrom}
+use Rattle.taskfile.specs.InPlace.{Fronts}
 use Rattle.taskfile.specs.PartsInPlace.{Stood}
 use Rattle.taskfile.specs.TaskReadLaws.{task-wf, task-limits}
 use Rattle.taskfile.specs.AnswerLaws.{There, there, Starts, starts}
@@ -36,16 +37,16 @@ probe c = writeProbe (probeOf (task c .task))
 sizes-are : (c : tie.Start) → take (1 + c .args .variables - 1) (drop 1 (now (c .args .file))) ≡ task c .task .sizes
 sizes-are c = let same : 1 + c .args .variables - 1 ≡ c .args .variables = omega arith in ap (λ (k : ℕ). take k (drop 1 (now (c .args .file)))) same ∙ begins c .sizes
 
--- there are at most 24
-few : (c : tie.Start) → length (take (1 + c .args .variables - 1) (drop 1 (now (c .args .file)))) ≤ 24
-few c = omega (arith, ap length (sizes-are c), task c .variables, begins c .variables)
+-- the limits, and where effects and incoming weights stand
+limits : (c : tie.Start) → let x = c .args in (length (take (1 + x .variables - 1) (drop 1 (now (x .file)))) ≤ 24) × (x .actions ≤ 32) × (x .actions ≤ length (now (x .row))) × Fronts (now (x .file)) (x .actions) (now (x .row))
+limits c = (omega (arith, ap length (sizes-are c), task c .variables, begins c .variables), begins c .actions, omega (arith, begins c .actions, c .pre .long), c .pre .fronts)
 
 -- where each action stands
 stood : (c : tie.Start) → let row = now (c .args .row) in (a : ℕ) → a < c .args .actions → Stood (now (c .args .file)) (take (1 + c .args .variables - 1) (drop 1 (now (c .args .file)))) (getD row a 0) (drop (ownFrom row a) row)
 stood c = actions-stood (now (c .args .file)) (c .pre) (sizes-are c)
 
 extent-of-requires : tie.Need-extent-of-requires
-extent-of-requires c κs = let s = c .before .before .before .before in ((few s, begins s .actions, s .pre .fronts), stood s)
+extent-of-requires c κs = let s = c .before .before .before .before in (limits s, stood s)
 
 head-length-requires : tie.Need-head-length-requires
 head-length-requires c κs = let b = begins (c .before .before .before .before .before) in (b .variables, b .actions, b .fits)
@@ -85,7 +86,7 @@ put-actions-requires : tie.Need-put-actions-requires
 put-actions-requires c κs =
     let s = c .before .before .before .before .before .before .before .before .before .before .before .before .before in
     let f = now (s .args .file) in
-    ((few s, begins s .actions, s .pre .fronts), (stood s, steps-room f (s .pre) (sizes-are s) (c .before .before .before .before .before .before .before .before .extent-of .ensures .0) (room (c .before .before .before .before .before)) (c .before .before .before .put-head .ensures)))
+    (limits s, (stood s, steps-room f (s .pre) (sizes-are s) (c .before .before .before .before .before .before .before .before .extent-of .ensures .0) (room (c .before .before .before .before .before)) (c .before .before .before .put-head .ensures)))
 
 -- the file is written
 wrote : (c : tie.After-put-actions) → let s = c .before .before .before .before .before .before .before .before .before .before .before .before .before .before in let front = c .before .before .before .before .put-head in Wrote (probe s) (now (s .args .out)) (putMid (front .result) (length (front .last .1 .1 .1 .1 .1 .0) - front .result) (front .last .1 .1 .1 .1 .1 .0) (c .put-actions .last .1 .1 .1 .1 .0)) (front .result + c .put-actions .result)

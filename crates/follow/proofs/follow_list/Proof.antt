@@ -1,6 +1,6 @@
 -- `follow::follow_list` meets its contract: the entries passed come from the actions noted, which lead to the state here. Assumes nothing.
 use Prim.Native.Nat.{ℕ, _+_, _-_, _<_}
-use mathlib.Core.Path.{_≡_, refl, sym, ap, subst, subst₂, _∙_}
+use mathlib.Core.Path.{_≡_, refl, sym, ap, subst, _∙_}
 use mathlib.Core.List.{List}
 use native.Mathlib.Omega.{arith}
 use denote.Ref.{now}
@@ -44,34 +44,34 @@ own : (c : tie.After-own-nodes Inv-loop μ-loop) → let row = now (c .before .b
 own c = let row = now (c .before .before .before .before .before .before .before .before .before .before .before .before .before .before .before .before .args .row) in own-nodes row (ownFrom row (number (c .before .before .before))) (c .own-nodes .ensures)
 
 -- what the action is followed by
-walkable : (c : tie.After-offset-at2 Inv-loop μ-loop) → let x = c .before .before .before .before .before .before .before .before .before .before .before .before .before .before .before .before .before .before .before .before .before .args in
-    Walkable (now (x .sizes)) (actionIn (now (x .file)) (now (x .sizes)) (c .before .before .before .offset-at .result) (lent (now (x .row)) (c .before .before .before .before .before .own-nodes .result)) .nodes) (lent (now (x .first-edge)) (c .before .before .before .before .offset-within .result)) (getD (now (x .list)) (c .before .before .before .before .before .before .before .before .before .before .before .loop .i) 0) (c .offset-at2 .result) (c .before .before .before .before .before .before .before .before .before .before .before .loop .state)
+walkable : (c : tie.After-offset-at Inv-loop μ-loop) → let x = c .before .before .before .before .before .before .before .before .before .before .before .before .before .before .before .before .before .before .before .before .before .args in
+    Walkable (now (x .sizes)) (actionIn (now (x .file)) (now (x .sizes)) (getD (now (x .row)) (number (c .before .before .before .before .before .before .before .before)) 0) (lent (now (x .row)) (c .before .before .before .before .before .own-nodes .result)) .nodes) (lent (now (x .first-edge)) (c .before .before .before .before .offset-within .result)) (getD (now (x .list)) (c .before .before .before .before .before .before .before .before .before .before .before .loop .i) 0) (c .offset-at .result) (c .before .before .before .before .before .before .before .before .before .before .before .loop .state)
 walkable c =
     let x = c .before .before .before .before .before .before .before .before .before .before .before .before .before .before .before .before .before .before .before .before .before .args in
     let a = number (c .before .before .before .before .before .before .before .before) in
     let same : c .before .before .before .before .before .before .before .before .byte-at .result ≡ 1 + a = omega (arith, c .before .before .before .before .before .before .before .if1 .left) in
     let edges = own-nodes (now (x .first-edge)) (getD (now (x .row)) (firstsFrom + a) 0) (c .before .before .before .before .offset-within .ensures) in
-    walkable-there (c .before .before .before .before .before .before .before .before .before .before .before .before .before .before .before .before .before .before .before .before .before .pre .0 .0) (c .before .before .before .before .before .before .before .before .before .before .before .loop .inv .inside) (starts (c .before .before .before .before .before) .0) (c .before .before .before .offset-at .ensures) (own (c .before .before .before .before .before)) edges (c .offset-at2 .ensures ∙ ap (λ (k : ℕ). getD (now (x .first-step)) k 0) same) (starts (c .before .before .before .before .before) .1)
+    walkable-there (c .before .before .before .before .before .before .before .before .before .before .before .before .before .before .before .before .before .before .before .before .before .pre .0 .0) (c .before .before .before .before .before .before .before .before .before .before .before .loop .inv .inside) (starts (c .before .before .before .before .before) .0) (own (c .before .before .before .before .before)) edges (c .offset-at .ensures ∙ ap (λ (k : ℕ). getD (now (x .first-step)) k 0) same) (starts (c .before .before .before .before .before) .1)
 
 -- the variables that its nodes test are noted
-tested : (c : tie.After-offset-at2 Inv-loop μ-loop) → let x = c .before .before .before .before .before .before .before .before .before .before .before .before .before .before .before .before .before .before .before .before .before .args in Tested (now (x .file)) (lent (now (x .row)) (c .before .before .before .before .before .own-nodes .result)) (nodeCount (now (x .file)) (c .before .before .before .offset-at .result))
+tested : (c : tie.After-offset-at Inv-loop μ-loop) → let x = c .before .before .before .before .before .before .before .before .before .before .before .before .before .before .before .before .before .before .before .before .before .args in Tested (now (x .file)) (lent (now (x .row)) (c .before .before .before .before .before .own-nodes .result)) (nodeCount (now (x .file)) (getD (now (x .row)) (number (c .before .before .before .before .before .before .before .before)) 0))
 tested c =
     let f = now (c .before .before .before .before .before .before .before .before .before .before .before .before .before .before .before .before .before .before .before .before .before .args .file) in
-    subst₂ (λ (own : List ℕ) (at : ℕ). Tested f own (nodeCount f at)) (sym (own (c .before .before .before .before .before))) (sym (c .before .before .before .offset-at .ensures)) (c .before .before .before .before .before .before .before .before .before .before .before .before .before .before .before .before .before .before .before .before .before .pre .0 .0 .tested .own (number (c .before .before .before .before .before .before .before .before)) (starts (c .before .before .before .before .before) .0))
+    subst (λ (z : List ℕ). Tested f z (nodeCount f (getD (now (c .before .before .before .before .before .before .before .before .before .before .before .before .before .before .before .before .before .before .before .before .before .args .row)) (number (c .before .before .before .before .before .before .before .before)) 0))) (sym (own (c .before .before .before .before .before))) (c .before .before .before .before .before .before .before .before .before .before .before .before .before .before .before .before .before .before .before .before .before .pre .0 .0 .tested .own (number (c .before .before .before .before .before .before .before .before)) (starts (c .before .before .before .before .before) .0))
 
 -- the action is followed
 passed : (c : tie.After-answer Inv-loop μ-loop) → let x = c .before .before .before .before .before .before .before .before .before .before .before .before .before .before .before .before .before .before .before .before .before .before .before .before .before .before .before .args in let l = c .before .before .before .before .before .before .before .before .before .before .before .before .before .before .before .before .before .loop in
-    Action-passed (now (x .file)) (now (x .sizes)) (c .before .before .before .before .before .before .before .before .before .offset-at .result) (lent (now (x .row)) (c .before .before .before .before .before .before .before .before .before .before .before .own-nodes .result)) (l .state) (now (x .list)) (l .i) (c .before .before .before .before .follow-action .last .1 .1 .1 .1 .1 .1 .0) (c .answer .given .0 .0) (c .answer .given .0 .1 .0)
+    Action-passed (now (x .file)) (now (x .sizes)) (getD (now (x .row)) (number (c .before .before .before .before .before .before .before .before .before .before .before .before .before .before)) 0) (lent (now (x .row)) (c .before .before .before .before .before .before .before .before .before .before .before .own-nodes .result)) (l .state) (now (x .list)) (l .i) (c .before .before .before .before .follow-action .last .1 .1 .1 .1 .1 .1 .0) (c .answer .given .0 .0) (c .answer .given .0 .1 .0)
 passed c =
     let x = c .before .before .before .before .before .before .before .before .before .before .before .before .before .before .before .before .before .before .before .before .before .before .before .before .before .before .before .args in
     let l = c .before .before .before .before .before .before .before .before .before .before .before .before .before .before .before .before .before .loop in
-    subst (ActionTo (now (x .file)) (now (x .sizes)) (c .before .before .before .before .before .before .before .before .before .offset-at .result) (lent (now (x .row)) (c .before .before .before .before .before .before .before .before .before .before .before .own-nodes .result)) (l .state) (now (x .list)) (l .i) (c .before .before .before .before .follow-action .last .1 .1 .1 .1 .1 .1 .0)) (c .answer .given .1) (c .before .before .before .before .follow-action .ensures)
+    subst (ActionTo (now (x .file)) (now (x .sizes)) (getD (now (x .row)) (number (c .before .before .before .before .before .before .before .before .before .before .before .before .before .before)) 0) (lent (now (x .row)) (c .before .before .before .before .before .before .before .before .before .before .before .own-nodes .result)) (l .state) (now (x .list)) (l .i) (c .before .before .before .before .follow-action .last .1 .1 .1 .1 .1 .1 .0)) (c .answer .given .1) (c .before .before .before .before .follow-action .ensures)
 
 loop-again : tie.Need-loop-again Inv-loop μ-loop
 loop-again c =
     let s = starts (c .before .before .before .before .before .before .before .before .before .before .before .before) in
     let l = c .before .before .before .before .before .before .before .before .before .before .before .before .before .before .before .before .before .before .loop in
-    following-next (l .inv) (s .0) (c .before .before .before .before .before .before .before .before .before .before .offset-at .ensures) (own (c .before .before .before .before .before .before .before .before .before .before .before .before)) (c .before .before .before .before .before .before .before .before .before .before .before .before .before .before .before .before .before .loop-test .taken) (s .1) (c .before .before .before .before .before .before .before .before .before .before .before .before .before .before .before .before .before .before .before .before .before .before .before .before .before .before .before .before .pre .0 .0 .well-formed (number (c .before .before .before .before .before .before .before .before .before .before .before .before .before .before .before)) (s .0)) (omega (arith, c .before .before .before .before .before .before .before .before .before .before .before .before .before .if2 .left, l .inv .same)) (passed (c .before))
+    following-next (l .inv) (s .0) (own (c .before .before .before .before .before .before .before .before .before .before .before .before)) (c .before .before .before .before .before .before .before .before .before .before .before .before .before .before .before .before .before .loop-test .taken) (s .1) (c .before .before .before .before .before .before .before .before .before .before .before .before .before .before .before .before .before .before .before .before .before .before .before .before .before .before .before .before .pre .0 .0 .well-formed (number (c .before .before .before .before .before .before .before .before .before .before .before .before .before .before .before)) (s .0)) (omega (arith, c .before .before .before .before .before .before .before .before .before .before .before .before .before .if2 .left, l .inv .same)) (passed (c .before))
 
 pub follow-list-spec : {M : Type 1} → statement M
 follow-list-spec =
@@ -95,7 +95,8 @@ follow-list-spec =
     (λ c κs. search needs)
     (λ c. search needs)
     (λ c κs. search needs)
-    (λ c κs. search needs)
+    (λ c. search needs)
+    (λ c. omega (arith, starts (c .before .before) .0, c .before .before .before .before .before .before .before .before .before .before .before .before .before .before .before .before .before .before .pre .0 .0 .long))
     (λ c. search needs)
     (λ c. omega (arith, c .before .before .own-nodes .ensures))
     (λ c. omega (arith, c .before .before .own-nodes .ensures))

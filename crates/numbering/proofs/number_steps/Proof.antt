@@ -37,20 +37,17 @@ element : (c : tie.In-loop Inv-loop μ-loop) → At (actions (c .before .before 
 element c = let x = c .before .before .before .before .before .before .before .args in actions-at (now (x .file)) (now (x .sizes)) (now (x .row)) (c .before .loop .a) (x .actions) (c .loop-test .taken)
 
 -- how many nodes it has
-count-is : (c : tie.After-node-count Inv-loop μ-loop) → c .node-count .result ≡ nodeCount (now (c .before .before .before .before .before .before .before .before .before .before .args .file)) (getD (now (c .before .before .before .before .before .before .before .before .before .before .args .row)) (c .before .before .before .before .loop .a) 0)
-count-is c = c .node-count .ensures ∙ ap (nodeCount (now (c .before .before .before .before .before .before .before .before .before .before .args .file))) (c .before .offset-at .ensures)
-
 long : (c : tie.After-node-count Inv-loop μ-loop) → length (action (c .before .before .before) .nodes) ≡ c .node-count .result
 long c =
     let x = c .before .before .before .before .before .before .before .before .before .before .args in
-    nodes-long (now (x .file)) (now (x .sizes)) (drop (ownFrom (now (x .row)) (c .before .before .before .before .loop .a)) (now (x .row))) 0 (nodeCount (now (x .file)) (getD (now (x .row)) (c .before .before .before .before .loop .a) 0)) ∙ sym (count-is c)
+    nodes-long (now (x .file)) (now (x .sizes)) (drop (ownFrom (now (x .row)) (c .before .before .before .before .loop .a)) (now (x .row))) 0 (nodeCount (now (x .file)) (getD (now (x .row)) (c .before .before .before .before .loop .a) 0)) ∙ sym (c .node-count .ensures)
 
 -- its nodes as they are lent
 abbrev lent : (c : tie.After-node-count Inv-loop μ-loop) → List Node
 lent c = let x = c .before .before .before .before .before .before .before .before .before .before .args in let k = c .before .before .own-nodes .result in nodesIn (now (x .file)) (now (x .sizes)) (take (length (now (x .row)) - k) (drop k (now (x .row)))) 0 (c .node-count .result)
 
 lent-are : (c : tie.After-node-count Inv-loop μ-loop) → lent c ≡ action (c .before .before .before) .nodes
-lent-are c = let x = c .before .before .before .before .before .before .before .before .before .before .args in lent-nodes (now (x .file)) (now (x .sizes)) (now (x .row)) (getD (now (x .row)) (c .before .before .before .before .loop .a) 0) (ownFrom (now (x .row)) (c .before .before .before .before .loop .a)) (c .before .before .own-nodes .ensures) (count-is c)
+lent-are c = let x = c .before .before .before .before .before .before .before .before .before .before .args in lent-nodes (now (x .file)) (now (x .sizes)) (now (x .row)) (getD (now (x .row)) (c .before .before .before .before .loop .a) 0) (ownFrom (now (x .row)) (c .before .before .before .before .loop .a)) (c .before .before .own-nodes .ensures) (c .node-count .ensures)
 
 -- where the numbers of their first edges go
 place : (c : tie.After-offset-within Inv-loop μ-loop) → (c .offset-within .result ≡ getD (now (c .before .before .before .before .before .before .before .before .before .before .before .args .row)) (firstsFrom + c .before .before .before .before .before .loop .a) 0) × (c .offset-within .result + length (action (c .before .before .before .before) .nodes) ≤ length (c .before .before .before .before .before .loop .first-edge))
@@ -62,7 +59,7 @@ number-edges-requires c κs =
     let l = c .before .before .before .before .before .before .before .loop in (
       omega (arith, place (c .before .before) .1, long (c .before .before .before), row-long (l .first-edge) (c .before .before .offset-within .result)),
       omega (arith, ap (total edgeCount) (lent-are (c .before .before .before)), numbering-small (l .inv .1) (element (c .before .before .before .before .before .before)) (c .before .before .before .before .before .before .before .before .before .before .before .before .before .pre .1 .0)),
-      lent-tested (now (x .file)) (now (x .row)) (getD (now (x .row)) (l .a) 0) (ownFrom (now (x .row)) (l .a)) (c .before .before .before .before .before .own-nodes .ensures) (count-is (c .before .before .before)) (c .before .before .before .before .before .before .before .before .before .before .before .before .before .pre .1 .1 .own (l .a) (c .before .before .before .before .before .before .loop-test .taken)),
+      lent-tested (now (x .file)) (now (x .row)) (getD (now (x .row)) (l .a) 0) (ownFrom (now (x .row)) (l .a)) (c .before .before .before .before .before .own-nodes .ensures) (c .before .before .before .node-count .ensures) (c .before .before .before .before .before .before .before .before .before .before .before .before .before .pre .1 .1 .own (l .a) (c .before .before .before .before .before .before .loop-test .taken)),
     )
 
 loop-again : tie.Need-loop-again Inv-loop μ-loop
@@ -88,7 +85,8 @@ number-steps-spec =
     (λ c. search needs)
     (λ c. omega (arith, c .loop-test .taken, c .before .before .before .before .before .before .before .pre .0, c .before .loop .inv .1 .same-step))
     (λ c κs. search needs)
-    (λ c κs. search needs)
+    (λ c. search needs)
+    (λ c. let x = c .before .before .before .before .before .before .before .before .before .args in omega (arith, c .before .before .loop-test .taken, c .before .before .before .before .before .before .before .before .before .pre .1 .0 .long, actions-long (now (x .file)) (now (x .sizes)) (now (x .row)) 0 (x .actions)))
     (λ c κs. search needs)
     (λ c. omega (arith, c .before .before .before .loop-test .taken, c .before .before .before .before .before .before .before .before .before .before .pre .0, c .before .before .before .before .before .before .before .before .before .before .good))
     (λ c κs. search needs)

@@ -1,14 +1,12 @@
 -- `probe_writer::action::put_actions` meets its contract: what is written and what is left are together the steps of all actions. Assumes nothing.
 use Prim.Native.Nat.{ℕ, _+_, _-_, _≤_}
-use mathlib.Core.Path.{_≡_, sym, ap, subst₂, _∙_}
+use mathlib.Core.Path.{_≡_, sym, subst, _∙_}
 use mathlib.Core.List.{List}
 use native.Mathlib.Omega.{arith}
-use lib.ListN.{length, take, drop}
+use lib.ListN.{length, getD, take, drop}
 use denote.Ref.{now}
-use Rattle.facts.specs.Partial.{pastPartial}
 use Rattle.facts.specs.Fields.{writeEach}
 use Rattle.taskfile.specs.Row.{ownFrom}
-use Rattle.taskfile.specs.WalkInPlace.{incomingPlace}
 use Rattle.taskfile.specs.MoveInPlaceLaws.{own-nodes}
 use Rattle.probefile.specs.ProbeFile.{writeStep}
 use Rattle.compilation.specs.Compile.{flat, actionSteps}
@@ -27,40 +25,39 @@ abbrev μ-loop : tie.MeasureT-loop
 μ-loop file sizes count row out₀ at₀ a₀ out at a = count - a
 
 -- the action's own nodes, as they are lent
-abbrev lent : (c : tie.After-offset-at Inv-loop μ-loop) → List ℕ
-lent c = let row = now (c .before .before .before .before .before .before .before .before .args .row) in take (length row - c .before .own-nodes .result) (drop (c .before .own-nodes .result) row)
+abbrev lent : (c : tie.After-own-nodes Inv-loop μ-loop) → List ℕ
+lent c = let row = now (c .before .before .before .before .before .before .before .args .row) in take (length row - c .own-nodes .result) (drop (c .own-nodes .result) row)
 
-own : (c : tie.After-offset-at Inv-loop μ-loop) → lent c ≡ drop (ownFrom (now (c .before .before .before .before .before .before .before .before .args .row)) (c .before .before .before .loop .a)) (now (c .before .before .before .before .before .before .before .before .args .row))
-own c = own-nodes (now (c .before .before .before .before .before .before .before .before .args .row)) (ownFrom (now (c .before .before .before .before .before .before .before .before .args .row)) (c .before .before .before .loop .a)) (c .before .own-nodes .ensures)
+own : (c : tie.After-own-nodes Inv-loop μ-loop) → lent c ≡ drop (ownFrom (now (c .before .before .before .before .before .before .before .args .row)) (c .before .before .loop .a)) (now (c .before .before .before .before .before .before .before .args .row))
+own c = own-nodes (now (c .before .before .before .before .before .before .before .args .row)) (ownFrom (now (c .before .before .before .before .before .before .before .args .row)) (c .before .before .loop .a)) (c .own-nodes .ensures)
 
 -- what is left from action a on
-abbrev left : (c : tie.After-offset-at Inv-loop μ-loop) → ℕ → List ℕ
-left c a = let x = c .before .before .before .before .before .before .before .before .args in actionsFrom (now (x .file)) (now (x .sizes)) (now (x .row)) (x .count) a
+abbrev left : (c : tie.After-own-nodes Inv-loop μ-loop) → ℕ → List ℕ
+left c a = let x = c .before .before .before .before .before .before .before .args in actionsFrom (now (x .file)) (now (x .sizes)) (now (x .row)) (x .count) a
 
-cut : (c : tie.After-offset-at Inv-loop μ-loop) → let x = c .before .before .before .before .before .before .before .before .args in let a = c .before .before .before .loop .a in Cut (left c a) (writeEach writeStep (actionSteps (length (now (x .sizes))) a (actionIn (now (x .file)) (now (x .sizes)) (c .offset-at .result) (lent c)))) (left c (a + 1))
-cut c = let x = c .before .before .before .before .before .before .before .before .args in actions-cut (now (x .file)) (now (x .sizes)) (now (x .row)) (x .count) (c .before .before .before .loop .a) (c .offset-at .ensures) (own c) (c .before .before .loop-test .taken)
+cut : (c : tie.After-own-nodes Inv-loop μ-loop) → let x = c .before .before .before .before .before .before .before .args in let a = c .before .before .loop .a in Cut (left c a) (writeEach writeStep (actionSteps (length (now (x .sizes))) a (actionIn (now (x .file)) (now (x .sizes)) (getD (now (x .row)) a 0) (lent c)))) (left c (a + 1))
+cut c = let x = c .before .before .before .before .before .before .before .args in actions-cut (now (x .file)) (now (x .sizes)) (now (x .row)) (x .count) (c .before .before .loop .a) (own c) (c .before .loop-test .taken)
 
 put-action-requires : tie.Need-put-action-requires Inv-loop μ-loop
 put-action-requires c κs =
     let s = c .before .before .before .before .before .before .before .before .before .before .before .before in
     let x = s .args in
     let l = c .before .before .before .before .before .before .before .loop in
-    let at = c .before .before .before .before .offset-at .ensures in
     let taken = c .before .before .before .before .before .before .loop-test .taken in (
       (
-        subst₂ (Stood (now (x .file)) (now (x .sizes))) (sym at) (sym (own (c .before .before .before .before))) (s .pre .1 .0 (l .a) taken),
-        c .before .before .before .offset-at2 .ensures ∙ s .pre .0 .2 .effect (l .a) taken ∙ ap (pastPartial (now (x .file))) (sym at),
-        c .before .before .offset-at3 .ensures ∙ s .pre .0 .2 .incoming (l .a) taken ∙ ap (incomingPlace (now (x .file))) (sym at),
+        subst (Stood (now (x .file)) (now (x .sizes)) (getD (now (x .row)) (l .a) 0)) (sym (own (c .before .before .before .before .before))) (s .pre .1 .0 (l .a) taken),
+        c .before .before .before .offset-at .ensures ∙ s .pre .0 .3 .effect (l .a) taken,
+        c .before .before .offset-at2 .ensures ∙ s .pre .0 .3 .incoming (l .a) taken,
         s .pre .0 .0,
         omega (arith, s .pre .0 .1, taken),
       ),
-      going-room (l .inv .1) (s .pre .1 .1) (cut (c .before .before .before .before)),
+      going-room (l .inv .1) (s .pre .1 .1) (cut (c .before .before .before .before .before)),
     )
 
 add-at : tie.Need-add-at Inv-loop μ-loop
 add-at c =
     let fits = c .before .before .before .before .before .before .before .before .before .before .before .before .before .before .before .pre .1 .1 in
-    let g = going-more (c .before .before .before .before .before .before .before .before .before .before .loop .inv .1) fits (cut (c .before .before .before .before .before .before .before)) (c .before .before .put-action .ensures) in
+    let g = going-more (c .before .before .before .before .before .before .before .before .before .before .loop .inv .1) fits (cut (c .before .before .before .before .before .before .before .before)) (c .before .before .put-action .ensures) in
     omega (arith, going-inside g fits, going-same g fits, c .before .before .before .before .before .before .before .before .before .before .before .before .before .before .before .good)
 
 returns : tie.Need-returns Inv-loop μ-loop
@@ -77,7 +74,8 @@ put-actions-spec =
     μ-loop
     (λ c. let x = c .before .before .before .before .args in (omega arith, actions-start (now (x .file)) (now (x .sizes)) (now (x .row)) (x .count) (now (x .out))))
     (λ c κs. search needs)
-    (λ c κs. search needs)
+    (λ c. search needs)
+    (λ c. omega (arith, c .before .before .loop-test .taken, c .before .before .before .before .before .before .before .before .pre .0 .2))
     (λ c. omega (arith, c .before .before .loop-test .taken, c .before .before .before .before .before .before .before .before .pre .0 .1))
     (λ c κs. search needs)
     (λ c. omega (arith, c .before .before .before .loop-test .taken, c .before .before .before .before .before .before .before .before .before .pre .0 .1))
@@ -93,6 +91,6 @@ put-actions-spec =
     add-at
     (λ c. omega (arith, c .before .before .before .before .before .before .before .before .before .loop-test .taken))
     (λ c. omega (arith, c .before .before .before .before .before .before .before .before .before .loop-test .taken))
-    (λ c. (omega (arith, c .before .before .before .before .before .before .before .before .before .loop-test .taken), going-more (c .before .before .before .before .before .before .before .before .before .before .loop .inv .1) (c .before .before .before .before .before .before .before .before .before .before .before .before .before .before .before .pre .1 .1) (cut (c .before .before .before .before .before .before .before)) (c .before .before .put-action .ensures)))
+    (λ c. (omega (arith, c .before .before .before .before .before .before .before .before .before .loop-test .taken), going-more (c .before .before .before .before .before .before .before .before .before .before .loop .inv .1) (c .before .before .before .before .before .before .before .before .before .before .before .before .before .before .before .pre .1 .1) (cut (c .before .before .before .before .before .before .before .before)) (c .before .before .put-action .ensures)))
     (λ c. going-same (c .before .loop .inv .1) (c .before .before .before .before .before .before .pre .1 .1))
     returns)

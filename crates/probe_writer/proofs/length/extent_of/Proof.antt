@@ -23,12 +23,12 @@ abbrev μ-loop : tie.MeasureT-loop
 μ-loop file sizes count row steps₀ bytes₀ a₀ steps bytes a = count - a
 
 -- the action of this turn stands in the file
-stood : (c : tie.After-offset-at2 Inv-loop μ-loop) → let x = c .before .before .before .before .before .before .before .args in let a = c .before .before .before .loop .a in Stood (now (x .file)) (now (x .sizes)) (getD (now (x .row)) a 0) (drop (ownFrom (now (x .row)) a) (now (x .row)))
+stood : (c : tie.After-offset-at Inv-loop μ-loop) → let x = c .before .before .before .before .before .before .before .args in let a = c .before .before .before .loop .a in Stood (now (x .file)) (now (x .sizes)) (getD (now (x .row)) a 0) (drop (ownFrom (now (x .row)) a) (now (x .row)))
 stood c = c .before .before .before .before .before .before .before .pre .1 (c .before .before .before .loop .a) (c .before .before .loop-test .taken)
 
 -- where its incoming weight stands
-place : (c : tie.After-offset-at2 Inv-loop μ-loop) → c .offset-at2 .result ≡ incomingPlace (now (c .before .before .before .before .before .before .before .args .file)) (getD (now (c .before .before .before .before .before .before .before .args .row)) (c .before .before .before .loop .a) 0)
-place c = c .offset-at2 .ensures ∙ c .before .before .before .before .before .before .before .pre .0 .2 .incoming (c .before .before .before .loop .a) (c .before .before .loop-test .taken)
+place : (c : tie.After-offset-at Inv-loop μ-loop) → c .offset-at .result ≡ incomingPlace (now (c .before .before .before .before .before .before .before .args .file)) (getD (now (c .before .before .before .before .before .before .before .args .row)) (c .before .before .before .loop .a) 0)
+place c = c .offset-at .ensures ∙ c .before .before .before .before .before .before .before .pre .0 .3 .incoming (c .before .before .before .loop .a) (c .before .before .loop-test .taken)
 
 edge-count-requires : tie.Need-edge-count-requires Inv-loop μ-loop
 edge-count-requires c κs =
@@ -41,10 +41,10 @@ edges-few : (c : tie.After-edge-count Inv-loop μ-loop) → c .edge-count .resul
 edges-few c = omega (arith, c .edge-count .ensures .1, count-in (now (c .before .before .before .before .before .before .before .before .before .before .before .args .file)) (getD (now (c .before .before .before .before .before .before .before .before .before .before .before .args .row)) (c .before .before .before .before .before .before .before .loop .a) 0) (place (c .before .before .before .before)) (c .before .byte-at .ensures), stood (c .before .before .before .before) .few)
 
 -- its own partial states have at most 64 bytes
-states-few : (c : tie.After-edge-count Inv-loop μ-loop) → (c .before .before .before .before .before .offset-at .result ≤ c .before .before .before .before .offset-at2 .result) × (c .before .before .before .before .offset-at2 .result ≤ c .before .before .before .before .before .offset-at .result + 64)
+states-few : (c : tie.After-edge-count Inv-loop μ-loop) → let at = getD (now (c .before .before .before .before .before .before .before .before .before .before .before .args .row)) (c .before .before .before .before .before .before .before .loop .a) 0 in (at ≤ c .before .before .before .before .offset-at .result) × (c .before .before .before .before .offset-at .result ≤ at + 64)
 states-few c =
     let own = states-are (now (c .before .before .before .before .before .before .before .before .before .before .before .args .file)) (stood (c .before .before .before .before)) (place (c .before .before .before .before)) in
-    (omega (arith, own .0, c .before .before .before .before .before .offset-at .ensures), omega (arith, own .2, c .before .before .before .before .before .before .before .before .before .before .before .pre .0 .0, c .before .before .before .before .before .offset-at .ensures))
+    (omega (arith, own .0), omega (arith, own .2, c .before .before .before .before .before .before .before .before .before .before .before .pre .0 .0))
 
 loop-again : tie.Need-loop-again Inv-loop μ-loop
 loop-again c =
@@ -54,7 +54,7 @@ loop-again c =
       omega (arith, taken),
       omega (arith, l .inv .1, edges-few c),
       omega (arith, l .inv .2, edges-few c, states-few c .1),
-      counted-action (now (x .file)) (now (x .sizes)) (now (x .row)) (x .count) (l .a) taken (stood (c .before .before .before .before)) (c .before .before .before .before .before .offset-at .ensures) (c .before .before .before .own-nodes .ensures) (place (c .before .before .before .before)) (c .before .byte-at .ensures) (c .edge-count .ensures .0) (l .inv .3),
+      counted-action (now (x .file)) (now (x .sizes)) (now (x .row)) (x .count) (l .a) taken (stood (c .before .before .before .before)) (c .before .before .before .own-nodes .ensures) (place (c .before .before .before .before)) (c .before .byte-at .ensures) (c .edge-count .ensures .0) (l .inv .3),
     )
 
 returns : tie.Need-returns Inv-loop μ-loop
@@ -69,7 +69,8 @@ extent-of-spec =
     Inv-loop
     μ-loop
     (λ c. let x = c .before .before .before .args in (omega arith, omega arith, omega arith, counted-start (left-start (now (x .file)) (now (x .sizes)) (now (x .row)) (x .count))))
-    (λ c κs. search needs)
+    (λ c. search needs)
+    (λ c. omega (arith, c .before .loop-test .taken, c .before .before .before .before .before .before .pre .0 .2))
     (λ c. omega (arith, c .before .loop-test .taken, c .before .before .before .before .before .before .pre .0 .1))
     (λ c κs. search needs)
     (λ c κs. search needs)
