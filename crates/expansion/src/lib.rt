@@ -23,7 +23,7 @@ ghost use Rattle.taskfile.specs.TaskFile.{runTask};
 ghost use Rattle.taskfile.specs.WalkInPlace.{moveAt, runList};
 ghost use Rattle.taskfile.specs.PartsInPlace.{actionsIn};
 ghost use Rattle.plans.specs.Carry.{expandFrom};
-ghost use Rattle.numbering.specs.InPlace.{expansion, maxEntries, Prepared, listedSum, WroteIf};
+ghost use Rattle.numbering.specs.InPlace.{expansion, maxEntries, Prepared, WroteIf};
 
 // Runs a list of at most 256 actions and writes its probe list; what is written for a list that is refused says nothing.
 pub fn put_plan(
@@ -35,8 +35,7 @@ pub fn put_plan(
     out: &mut [u16],
 ) -> Carried
     requires { ⌜ Ready (now file) variables actions (now row) × (length (now list) ≤ maxList) × (maxEntries * length (now list) ≤ length (now out)) ⌝ }
-    ensures { λ r. ⌜ listedSum r ≡ runTask (now (file .entry)) (now (list .entry)) ⌝ }
-    ensures { λ r. ⌜ WroteIf r (expansion (now (file .entry)) (now (list .entry))) (now (out .entry)) (now (out .exit)) ⌝ }
+    ensures { λ r. ⌜ WroteIf r (runTask (now (file .entry)) (now (list .entry))) (expansion (now (file .entry)) (now (list .entry))) (now (out .entry)) (now (out .exit)) ⌝ }
 {
     let last = 1 + variables;
     let sizes = &file[1..last];
@@ -73,8 +72,7 @@ fn put_list(
 ) -> Carried
     requires { ⌜ Prepared (now file) (now sizes) actions (now row) (now «first_step») (now «first_edge») × Inside (now sizes) (now state) ⌝ }
     requires { ⌜ (length (now list) ≤ maxList) × (maxEntries * length (now list) ≤ length (now out)) ⌝ }
-    ensures { λ r. ⌜ listedSum r ≡ runList actions (moveAt (now (file .entry)) (now (row .entry))) (partialAt (now (file .entry)) goal) (now (list .entry)) (now (state .entry)) ⌝ }
-    ensures { λ r. ⌜ WroteIf r (expandFrom (actionsIn (now (file .entry)) (now (sizes .entry)) (now (row .entry)) 0 actions) (now (list .entry)) (now (state .entry))) (now (out .entry)) (now (out .exit)) ⌝ }
+    ensures { λ r. ⌜ WroteIf r (runList actions (moveAt (now (file .entry)) (now (row .entry))) (partialAt (now (file .entry)) goal) (now (list .entry)) (now (state .entry))) (expandFrom (actionsIn (now (file .entry)) (now (sizes .entry)) (now (row .entry)) 0 actions) (now (list .entry)) (now (state .entry))) (now (out .entry)) (now (out .exit)) ⌝ }
 {
     let mut sum: u32 = 0;
     let mut written: usize = 0;

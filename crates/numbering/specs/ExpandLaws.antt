@@ -35,7 +35,7 @@ use Rattle.plans.specs.Carry.{actionList, expandFrom, expand}
 use Rattle.plans.specs.ListLaws.{total-take}
 use Rattle.plans.specs.LengthLaws.{expand-limit}
 use Rattle.carry.specs.CarryFile.{expanded}
-use Rattle.numbering.specs.InPlace.{Edges, Numbered, Writable, maxEntries, expansion, listedSum, WroteIf, Prepared}
+use Rattle.numbering.specs.InPlace.{Edges, Numbered, Writable, maxEntries, expansion, WroteIf, Prepared}
 use Rattle.numbering.specs.NumberLaws.{actions-at, total-next, actions-are, steps-few, all-tested}
 use Rattle.carry.specs.AnswerLaws.{entry-room, entry-more}
 use Rattle.carry.specs.declared.Carried.{Carried}
@@ -170,16 +170,15 @@ module _ (f : List ℕ) {variables count : ℕ} {row : List ℕ} (ready : Ready 
         few = omega (arith, ap (total stepCount) same, steps-few f ready);
       }
 
-  module _ (list : List ℕ) {sizes state : List ℕ} (e : sizes ≡ t .sizes) (s : state ≡ t .init) where
-    -- What is written from the initial state on is the expansion.
-    entries-are : {c : ℕ} → runTask f list ≡ accepted c → expandFrom (actionsIn f sizes row 0 count) list state ≡ expansion f list
-    unfolding expand
-    entries-are r = rw (e, s, actions-in-place f ready) (sym (expansion-is f (reads f ready) list (ran-plan f (reads f ready) list r)))
+  -- What is written from the initial state on is the expansion.
+  entries-are : (list : List ℕ) {sizes state : List ℕ} {c : ℕ} → runTask f list ≡ accepted c → sizes ≡ t .sizes → state ≡ t .init → expandFrom (actionsIn f sizes row 0 count) list state ≡ expansion f list
+  unfolding expand
+  entries-are list r e s = rw (e, s, actions-in-place f ready) (sym (expansion-is f (reads f ready) list (ran-plan f (reads f ready) list r)))
 
-    -- Whatever is answered.
-    pub wrote-expansion : (before now : List ℕ) (r : Carried) → listedSum r ≡ runTask f list → WroteIf r (expandFrom (actionsIn f sizes row 0 count) list state) before now → WroteIf r (expansion f list) before now
-    wrote-expansion before now (Listed n sum) h w = subst (λ (es : List ℕ). Wrote es before now n) (entries-are (sym h)) w
-    wrote-expansion before now (NotCarried why) h w = tt
+  pub wrote-expansion : (list before now : List ℕ) {sizes state : List ℕ} {ran : Read ℕ} (r : Carried) → sizes ≡ t .sizes → state ≡ t .init → ran ≡ runTask f list
+      → WroteIf r ran (expandFrom (actionsIn f sizes row 0 count) list state) before now → WroteIf r (runTask f list) (expansion f list) before now
+  wrote-expansion list before now (Listed n sum) e s same (h, w) = let runs = h ∙ same in (runs, subst (λ (es : List ℕ). Wrote es before now n) (entries-are list (sym runs) e s) w)
+  wrote-expansion list before now (NotCarried why) e s same h = h ∙ same
 
 -- ---- the ways in which the operation can go
 

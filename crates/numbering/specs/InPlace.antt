@@ -108,15 +108,10 @@ maxEntries = 26
 unfoldable pub expansion : List ℕ → List ℕ → List ℕ
 expansion f list = elim (expanded f list) [ accepted c ↦ c .0 | refused n p ↦ [] ]
 
--- the sum of the list that was written
-abbrev pub listedSum : Carried → Read ℕ
-listedSum (Listed n sum) = accepted sum
-listedSum (NotCarried why) = refused (number why) (place why)
-
--- where one was, these entries are at the front of a buffer, which was `before` and is `now`
-abbrev pub WroteIf : Carried → List ℕ → List ℕ → List ℕ → Type 0
-WroteIf (Listed n sum) entries before now = Wrote entries before now n
-WroteIf (NotCarried why) entries before now = Unit {0}
+-- what a run answers: its sum, where these entries were written at the front of a buffer, which was `before` and is `now`; or its refusal
+abbrev pub WroteIf : Carried → Read ℕ → List ℕ → List ℕ → List ℕ → Type 0
+WroteIf (Listed n sum) ran entries before now = (accepted sum ≡ ran) × Wrote entries before now n
+WroteIf (NotCarried why) ran entries before now = refused (number why) (place why) ≡ ran
 
 -- what the probe list of a list of actions is written from: the row has each action, each is well-formed, its incoming weight and the variables that its nodes test are noted, the steps have their numbers, and there are at most 24 variables and 576 steps
 pub record Prepared (f sizes : List ℕ) (count : ℕ) (row first-step first-edge : List ℕ) : Type 0 where

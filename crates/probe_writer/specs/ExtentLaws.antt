@@ -90,16 +90,13 @@ module _ (f : List ℕ) where
 -- ---- all actions
 
 module _ (f sizes row : List ℕ) (count a : ℕ) where
-  abbrev at : ℕ
-  at = getD row a 0
-
   -- The steps of action a are counted: its own nodes are noted from entry k of the row on, or it has none.
-  pub counted-action : {whole : List Step} {steps bytes k m edges incoming : ℕ} → a < count → Stood f sizes at (drop (ownFrom row a) row)
-      → k ≡ min (ownFrom row a) (length row) → incoming ≡ incomingPlace f at → m ≡ getD f (incoming + 2) 0
+  pub counted-action : {whole : List Step} {steps bytes k m edges incoming : ℕ} → a < count → Stood f sizes (getD row a 0) (drop (ownFrom row a) row)
+      → k ≡ min (ownFrom row a) (length row) → incoming ≡ incomingPlace f (getD row a 0) → m ≡ getD f (incoming + 2) 0
       → edges ≡ total edgeCount (nodesIn f sizes (take (length row - k) (drop k row)) 0 m)
-      → Counted whole (stepsLeft f sizes row count a) steps bytes → Counted whole (stepsLeft f sizes row count (a + 1)) (steps + (2 + edges)) (bytes + (27 + (incoming - at) + 21 * edges))
+      → Counted whole (stepsLeft f sizes row count a) steps bytes → Counted whole (stepsLeft f sizes row count (a + 1)) (steps + (2 + edges)) (bytes + (27 + (incoming - getD row a 0) + 21 * edges))
   counted-action l stood h i g e c =
       let n = length sizes in
-      let x = actionIn f sizes at (drop (ownFrom row a) row) in
-      let own = edges-own f sizes row at (ownFrom row a) h (count-in f at i g) e in
+      let x = actionIn f sizes (getD row a 0) (drop (ownFrom row a) row) in
+      let own = edges-own f sizes row (getD row a 0) (ownFrom row a) h (count-in f (getD row a 0) i g) e in
       counted-more (actionSteps n a x) (stepsLeft f sizes row count (a + 1)) c (left-next f sizes row count a l) (omega (arith, action-length n a x, own)) (omega (arith, bytes-in f sizes n a stood, own, states-are f stood i .0))

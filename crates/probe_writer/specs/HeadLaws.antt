@@ -25,23 +25,16 @@ module _ (f row : List ℕ) where
   markers-long a (suc count) = ap suc (markers-long (suc a) count)
 
   module _ (actions : ℕ) where
-    -- those of the markers of the actions from number a on
-    unfoldable pub markersFrom : ℕ → List ℕ
-    markersFrom a = markersIn f row a (actions - a)
-
     -- At first all are left.
-    pub markers-start : (out : List ℕ) → Going (markersIn f row 0 actions) (markersFrom 0) out out 0
-    unfolding markersFrom
+    pub markers-start : (out : List ℕ) → Going (markersIn f row 0 actions) (markersIn f row 0 (actions - 0)) out out 0
     markers-start out = let e : actions - 0 ≡ actions = omega arith in rw e (going-start (markersIn f row 0 actions) out)
 
     -- Then the one of action a, and those from the next on.
-    pub markers-cut : (a : ℕ) {count : ℕ} → count ≡ nodeCount f (getD row a 0) → a < actions → Cut (markersFrom a) ((count + 2) ∷ []) (markersFrom (a + 1))
-    unfolding markersFrom
+    pub markers-cut : (a : ℕ) {count : ℕ} → count ≡ nodeCount f (getD row a 0) → a < actions → Cut (markersIn f row a (actions - a)) ((count + 2) ∷ []) (markersIn f row (a + 1) (actions - (a + 1)))
     markers-cut a c h = let e : actions - a ≡ suc (actions - (a + 1)) = omega arith in record { cut = rw (e, c, add-one a) }
 
     -- At last none.
-    pub markers-none : (a : ℕ) → actions - a ≡ 0 → markersFrom a ≡ []
-    unfolding markersFrom
+    pub markers-none : (a : ℕ) → actions - a ≡ 0 → markersIn f row a (actions - a) ≡ []
     markers-none a h = rw h
 
 -- A byte, the task's sizes, the semaphore's, and one for each action.

@@ -1,6 +1,6 @@
 -- `expand::expand_by` meets its contract: the run's refusal, and else what was written, copied where there is room. Assumes nothing.
 use Prim.Native.Nat.{_≤_}
-use mathlib.Core.Path.{_≡_, sym, ap, subst, _∙_}
+use mathlib.Core.Path.{_≡_, sym, subst}
 use native.Mathlib.Omega.{arith}
 use denote.Ref.{now}
 use lib.ListN.{length}
@@ -10,7 +10,7 @@ use Rattle.facts.specs.Write.{Wrote}
 use Rattle.facts.specs.WriteLaws.{wrote-inside}
 use Rattle.taskfile.specs.TaskFile.{runTask}
 use Rattle.taskfile.specs.PartsInPlaceLaws.{reads}
-use Rattle.numbering.specs.InPlace.{expansion, listedSum, WroteIf}
+use Rattle.numbering.specs.InPlace.{expansion, WroteIf}
 use Rattle.numbering.specs.ExpandLaws.{expansion-few, expand-no-list, expand-plan, front-copied}
 use Rattle.carry.specs.declared.Carried.{Carried}
 use Rattle.carry.specs.AnswerLaws.{refused-in, short-in, wrote-in}
@@ -18,41 +18,41 @@ use borrow.Author.Needs.{needs}
 use Rattle.expand.proofs.expand_by.Statement.{statement}
 use Rattle.expand.proofs.expand_by.Tie as tie
 
--- the list is a plan
-runs : (c : tie.After-written) → let a = c .before .before .before .before .before .before .before .before .before .before .before .args in runTask (now (a .file)) (now (a .list)) ≡ accepted (c .written .given .0 .1 .0)
-runs c = sym (c .before .before .before .before .put-plan .ensures .0) ∙ ap listedSum (c .written .given .1)
+-- what an answer of the run says
+abbrev Told : (c : tie.After-put-plan) → Carried → Type 0
+Told c r = let a = c .before .before .before .before .before .before .before .args in WroteIf r (runTask (now (a .file)) (now (a .list))) (expansion (now (a .file)) (now (a .list))) (now (a .room)) (c .put-plan .last .1 .1 .1 .1 .1 .0)
 
--- its probe list is written
-wrote : (c : tie.After-written) → let a = c .before .before .before .before .before .before .before .before .before .before .before .args in Wrote (expansion (now (a .file)) (now (a .list))) (now (a .room)) (c .before .before .before .before .put-plan .last .1 .1 .1 .1 .1 .0) (c .written .given .0 .0)
-wrote c = let a = c .before .before .before .before .before .before .before .before .before .before .before .args in subst (λ (r : Carried). WroteIf r (expansion (now (a .file)) (now (a .list))) (now (a .room)) (c .before .before .before .before .put-plan .last .1 .1 .1 .1 .1 .0)) (c .written .given .1) (c .before .before .before .before .put-plan .ensures .1)
+-- the list is a plan, and its probe list is written
+wrote : (c : tie.After-written) → let a = c .before .before .before .before .before .before .before .before .before .before .before .args in (accepted (c .written .given .0 .1 .0) ≡ runTask (now (a .file)) (now (a .list))) × Wrote (expansion (now (a .file)) (now (a .list))) (now (a .room)) (c .before .before .before .before .put-plan .last .1 .1 .1 .1 .1 .0) (c .written .given .0 .0)
+wrote c = subst (Told (c .before .before .before .before)) (c .written .given .1) (c .before .before .before .before .put-plan .ensures)
 
 -- it is inside the buffer
 inside : (c : tie.After-written) → c .written .given .0 .0 ≤ length (c .before .before .before .before .put-plan .last .1 .1 .1 .1 .1 .0)
 inside c =
     let s = c .before .before .before .before .before .before .before .before .before .before .before in
     let f = now (s .args .file) in
-    wrote-inside (wrote c) (omega (arith, expansion-few f (reads f (s .pre .0)) (now (s .args .list)) (runs c), s .pre .2))
+    wrote-inside (wrote c .1) (omega (arith, expansion-few f (reads f (s .pre .0)) (now (s .args .list)) (sym (wrote c .0)), s .pre .2))
 
 returns : tie.Need-returns
 returns c =
     let s = c .before .before .before .before .before .before .before .before .before .before .before .before .before in
     let f = now (s .args .file) in
-    let r = short-in (expand-plan f (reads f (s .pre .0)) (now (s .args .list)) (runs (c .before .before))) (now (s .args .out)) (wrote (c .before .before) .count) (c .if1 .taken) in
+    let r = short-in (expand-plan f (reads f (s .pre .0)) (now (s .args .list)) (sym (wrote (c .before .before) .0))) (now (s .args .out)) (wrote (c .before .before) .1 .count) (c .if1 .taken) in
     (sym (r .0), sym (r .1))
 
 returns-2 : tie.Need-returns-2
 returns-2 c =
     let s = c .before .before .before .before .before .before .before .before .before .before .before .before in
     let f = now (s .args .file) in
-    let r = refused-in (now (s .args .out)) (expand-no-list f (reads f (s .pre .0)) (now (s .args .list)) (sym (c .before .before .before .before .before .put-plan .ensures .0) ∙ ap listedSum (c .before .why .given .1))) in
+    let r = refused-in (now (s .args .out)) (expand-no-list f (reads f (s .pre .0)) (now (s .args .list)) (sym (subst (Told (c .before .before .before .before .before)) (c .before .why .given .1) (c .before .before .before .before .before .put-plan .ensures)))) in
     (sym (r .0), sym (r .1))
 
 returns-3 : tie.Need-returns-3
 returns-3 c =
     let s = c .before .before .before .before .before .before .before .before .before .before .before .before .before .before .before .before .before .before in
     let f = now (s .args .file) in
-    let w = wrote (c .before .before .before .before .before .before .before) in
-    let r = wrote-in (expand-plan f (reads f (s .pre .0)) (now (s .args .list)) (runs (c .before .before .before .before .before .before .before))) (omega (arith, c .before .before .before .before .before .if1 .left, w .count)) (front-copied w (c .before .before .put-entries .ensures)) in
+    let w = wrote (c .before .before .before .before .before .before .before) .1 in
+    let r = wrote-in (expand-plan f (reads f (s .pre .0)) (now (s .args .list)) (sym (wrote (c .before .before .before .before .before .before .before) .0))) (omega (arith, c .before .before .before .before .before .if1 .left, w .count)) (front-copied w (c .before .before .put-entries .ensures)) in
     (sym (r .0), sym (r .1))
 
 pub expand-by-spec : {M : Type 1} → statement M

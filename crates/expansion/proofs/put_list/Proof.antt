@@ -103,7 +103,7 @@ going c =
     entry-next (entry (c .before .before .before .before .before .before .before .before .before)) (applied c) (l .inv .4) (fits (c .before .before .before .before .before .before .before .before .before .before .before .before .before .before .before .before .before .before .before .before .before .before .before .before .before .before .before .before .before)) wrote
 
 returns-2 : tie.Need-returns-2 Inv-loop μ-loop
-returns-2 c = (running-blocked (c .before .before .before .before .before .before .before .before .before .before .before .before .before .before .before .before .before .before .before .before .loop .inv .3) (c .before .before .before .before .before .before .before .before .before .before .before .before .before .before .before .before .before .before .before .loop-test .taken) (c .before .before .before .before .before .before .before .before .before .before .before .before .before .before .before .before .before .if1 .left) (ap (λ (r : Applied). appliedMove r (after (c .before .before .before .before .before .before))) (sym (c .enum-told .given .1)) ∙ did (c .before .before .before .before .before .before)), tt)
+returns-2 c = running-blocked (c .before .before .before .before .before .before .before .before .before .before .before .before .before .before .before .before .before .before .before .before .loop .inv .3) (c .before .before .before .before .before .before .before .before .before .before .before .before .before .before .before .before .before .before .before .loop-test .taken) (c .before .before .before .before .before .before .before .before .before .before .before .before .before .before .before .before .before .if1 .left) (ap (λ (r : Applied). appliedMove r (after (c .before .before .before .before .before .before))) (sym (c .enum-told .given .1)) ∙ did (c .before .before .before .before .before .before))
 
 add-written : tie.Need-add-written Inv-loop μ-loop
 add-written c = omega (arith, going-few (going (c .before .before)), few (c .before .before .before .before .before .before .before .before .before .before .before .before .before .before .before .before .before .before .before .before .before .before .before .before .before .before .before .before .before .before .before))
@@ -137,7 +137,7 @@ put-list-spec =
     (λ c. omega (arith, c .shared-slice-known7 .given (c .before .before .loop .i)))
     (λ c. state-long (c .before .before .before .before .before .before .before .before .before .before .before .before) (c .before .before .before .loop .state) (c .before .before .before .loop .inv .1))
     (λ c. going-same (c .before .before .before .loop .inv .4) (fits (c .before .before .before .before .before .before .before .before .before .before .before .before)))
-    (λ c. (running-missing (c .before .before .before .loop .inv .3) (c .before .before .loop-test .taken) (c .if1 .taken), tt))
+    (λ c. running-missing (c .before .before .before .loop .inv .3) (c .before .before .loop-test .taken) (c .if1 .taken))
     (λ c κs. search needs)
     (λ c. omega (arith, c .before .if1 .left, c .before .before .before .before .before .before .before .before .before .before .before .before .before .pre .0 .0 .long, c .before .before .before .before .before .before .before .before .before .before .before .before .before .good))
     (λ c κs. search needs)
@@ -178,4 +178,4 @@ put-list-spec =
     returns-3
     (λ c. state-long (c .before .before .before .before .before .before .before .before .before .before .before .before .before) (c .before .before .before .before .loop .state) (c .before .before .before .before .loop .inv .1))
     (λ c. going-same (c .before .before .before .before .loop .inv .4) (fits (c .before .before .before .before .before .before .before .before .before .before .before .before .before)))
-    (λ c. (running-unmet (c .before .before .before .before .loop .inv .3) (c .before .before .before .loop-test .left) (sym (c .if2 .left) ∙ c .before .holds-at .ensures), tt)))
+    (λ c. running-unmet (c .before .before .before .before .loop .inv .3) (c .before .before .before .loop-test .left) (sym (c .if2 .left) ∙ c .before .holds-at .ensures)))

@@ -46,8 +46,8 @@ returns c =
     let f = now (x .file) in
     let list = now (x .list) in
     let put = c .before .before .before .put-list in
-    let ran = put .ensures .0 ∙ ap (λ (state : List ℕ). runList (x .actions) (moveAt f (now (x .row))) (partialAt f (1 + 2 * x .variables)) list state) (c .before .before .before .before .before .before .before .before .initial .ensures .0) ∙ sym (run-is f (s .pre .0) list) in
-    (ran, wrote-expansion f (s .pre .0) list (sizes-are s) (state-is (c .before .before .before .before .before .before .before .before)) (now (x .out)) (put .last .1 .1 .1 .1 .1 .1 .1 .1 .1 .0) (put .result) ran (put .ensures .1))
+    let ran = ap (λ (state : List ℕ). runList (x .actions) (moveAt f (now (x .row))) (partialAt f (1 + 2 * x .variables)) list state) (c .before .before .before .before .before .before .before .before .initial .ensures .0) ∙ sym (run-is f (s .pre .0) list) in
+    wrote-expansion f (s .pre .0) list (now (x .out)) (put .last .1 .1 .1 .1 .1 .1 .1 .1 .1 .0) (put .result) (sizes-are s) (state-is (c .before .before .before .before .before .before .before .before)) ran (put .ensures)
 
 pub put-plan-spec : {M : Type 1} → statement M
 put-plan-spec =

@@ -11,13 +11,13 @@ use Rattle.step_writer.specs.InPlace.{Weighs}
 use Rattle.probe_writer.specs.ExtentLaws.{count-in}
 use Rattle.probe_writer.specs.HeadInPlace.{markersIn}
 use Rattle.facts.specs.WriteRowLaws.{Cut, Going, going-inside, going-same, going-room, going-more, going-end}
-use Rattle.probe_writer.specs.HeadLaws.{markers-long, markersFrom, markers-start, markers-cut, markers-none}
+use Rattle.probe_writer.specs.HeadLaws.{markers-long, markers-start, markers-cut, markers-none}
 use borrow.Author.Needs.{needs}
 use Rattle.probe_writer.proofs.head.put_markers.Statement.{statement}
 use Rattle.probe_writer.proofs.head.put_markers.Tie as tie
 
 abbrev Inv-loop : tie.InvT-loop
-Inv-loop file actions row out₀ at₀ a₀ out at a = (a ≤ actions) × Going (markersIn file row 0 actions) (markersFrom file row actions a) out₀ out at
+Inv-loop file actions row out₀ at₀ a₀ out at a = (a ≤ actions) × Going (markersIn file row 0 actions) (markersIn file row a (actions - a)) out₀ out at
 
 abbrev μ-loop : tie.MeasureT-loop
 μ-loop file actions row out₀ at₀ a₀ out at a = actions - a
@@ -33,7 +33,7 @@ weighs c = c .before .before .before .before .before .before .pre .0 (c .before 
 count-is : (c : tie.After-byte-at Inv-loop μ-loop) → c .byte-at .result ≡ nodeCount (now (c .before .before .before .before .before .before .before .args .file)) (getD (now (c .before .before .before .before .before .before .before .args .row)) (c .before .before .before .loop .a) 0)
 count-is c = count-in (now (c .before .before .before .before .before .before .before .args .file)) (getD (now (c .before .before .before .before .before .before .before .args .row)) (c .before .before .before .loop .a) 0) (c .before .offset-at .ensures ∙ weighs (c .before) .place) (c .byte-at .ensures)
 
-cut : (c : tie.After-byte-at Inv-loop μ-loop) → let x = c .before .before .before .before .before .before .before .args in Cut (markersFrom (now (x .file)) (now (x .row)) (x .actions) (c .before .before .before .loop .a)) ((c .byte-at .result + 2) ∷ []) (markersFrom (now (x .file)) (now (x .row)) (x .actions) (c .before .before .before .loop .a + 1))
+cut : (c : tie.After-byte-at Inv-loop μ-loop) → let x = c .before .before .before .before .before .before .before .args in Cut (markersIn (now (x .file)) (now (x .row)) (c .before .before .before .loop .a) (x .actions - c .before .before .before .loop .a)) ((c .byte-at .result + 2) ∷ []) (markersIn (now (x .file)) (now (x .row)) (c .before .before .before .loop .a + 1) (x .actions - (c .before .before .before .loop .a + 1)))
 cut c = let x = c .before .before .before .before .before .before .before .args in markers-cut (now (x .file)) (now (x .row)) (x .actions) (c .before .before .before .loop .a) (count-is c) (c .before .before .loop-test .taken)
 
 add-at : tie.Need-add-at Inv-loop μ-loop
