@@ -156,12 +156,9 @@ module _ (f places : List ℕ) (a at : ℕ) (few : a < maxActions) where
   front-other : (k : ℕ) → (k ≡ effectsFrom + a → ⊥) → (k ≡ incomingFrom + a → ⊥) → getD (frontNoted f at a places) k 0 ≡ getD places k 0
   front-other k h g = getD-set-other (set places (effectsFrom + a) (pastPartial f at)) (incomingFrom + a) k (incomingPlace f at) 0 g ∙ getD-set-other places (effectsFrom + a) k (pastPartial f at) 0 h
 
-  -- above all no action's offset, and none behind the places of incoming weights
+  -- above all no action's offset
   front-keeps : (b : ℕ) → b < maxActions → getD (frontNoted f at a places) b 0 ≡ getD places b 0
   front-keeps b l = front-other b (λ q. omega (arith, l, q)) (λ q. omega (arith, l, q))
-
-  front-behind : (k : ℕ) → firstsFrom ≤ k → getD (frontNoted f at a places) k 0 ≡ getD places k 0
-  front-behind k l = front-other k (λ q. omega (arith, few, l, q)) (λ q. omega (arith, few, l, q))
 
   module _ (long : firstsFrom ≤ length places) where
     front-effect : getD (frontNoted f at a places) (effectsFrom + a) 0 ≡ pastPartial f at
