@@ -40,7 +40,7 @@ fn show_in(
     let sizes = &file[1..last];
     let names = task::put_variables(out, 0, sizes, &file[last..goal]);
     let label = append(out, names, b"goal:");
-    let facts = words::words::put_partial(out, label, file, goal, sizes);
+    let facts = words::parts::put_partial(out, label, file, goal, sizes);
     let line = append(out, facts, b"\n");
     let end = task::put_actions(out, line, file, sizes, actions, row);
     Described::Length(end)

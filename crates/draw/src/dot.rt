@@ -5,7 +5,7 @@ use text::append::append;
 use walk::diagram_at;
 use walk::edge_for;
 use walk::own_nodes;
-use words::words::put_numbered;
+use words::parts::put_numbered;
 ghost use Prim.Native.Nat.{_+_, _-_, _≤_};
 ghost use lib.ListN.{length};
 ghost use Rattle.taskfile.specs.PartsInPlace.{nodeIn, actionIn};

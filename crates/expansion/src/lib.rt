@@ -12,7 +12,6 @@ use numbering::number_steps;
 use partial::holds_at;
 use taskfile::Task;
 use walk::own_nodes;
-ghost use mathlib.Core.Path.{_≡_};
 ghost use Prim.Native.Nat.{_+_, _*_, _≤_};
 ghost use lib.ListN.{length};
 ghost use Rattle.facts.specs.Partial.{partialAt};

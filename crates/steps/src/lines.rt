@@ -6,7 +6,7 @@ use facts::Checked;
 use facts::Refusal;
 use text::append::append;
 use text::append::append_number;
-use words::words::put_numbered;
+use words::parts::put_numbered;
 ghost use mathlib.Core.Path.{_≡_};
 ghost use Prim.Native.Nat.{_+_, _*_, _≤_};
 ghost use lib.ListN.{length};

@@ -1,5 +1,4 @@
 // The additive estimate of a task file.
-mod price;
 mod rounds;
 
 use estimate::Estimated;

@@ -1,10 +1,10 @@
 // The estimate of a task, in place: one array of ranks, which actions lower in turn.
-use crate::price::least_from;
 use estimate::Est;
 use estimate::ranks::NEVER;
 use estimate::ranks::UNSET;
 use estimate::ranks::ranked;
 use estimate::ranks::sum_rank;
+use price::least_from;
 use walk::diagram_past;
 use walk::own_nodes;
 ghost use mathlib.Core.Path.{_≡_};

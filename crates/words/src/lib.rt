@@ -1,5 +1,5 @@
 // Tasks in words: what the operations answer, and the parts that texts about tasks share.
-pub mod words;
+pub mod parts;
 
 use facts::Refusal;
 
