@@ -12,8 +12,10 @@ ghost use Rattle.carry.specs.CarryFile.{expanded, answerIn, bufferIn};
 ghost use Rattle.numbering.specs.InPlace.{maxEntries};
 ghost use Rattle.carry.specs.Answers.{carriedAnswer};
 
-// The most actions of a list whose probe list is written into the smaller buffer.
-const SHORT_LIST: usize = 32;
+// The most actions of a list whose probe list is written into the smallest buffer, and into the next one: a buffer is filled before it is used.
+const SHORT_LIST: usize = 16;
+
+const MIDDLING_LIST: usize = 64;
 
 // Writes the probe list that comes from a list of actions: the task file's refusals, then 8, per action 11 before 9, 10 at the end, and 7 where the
 // buffer is too short; a refusal changes no entry.
@@ -47,8 +49,12 @@ fn expand_in(
         return Carried::Refused(Refusal::Long(Task::MAX_LIST));
     }
     if list.len() <= SHORT_LIST {
-        let mut few = [0; 832];
+        let mut few = [0; 416];
         return expand_by(file, variables, actions, row, list, &mut few, out);
+    }
+    if list.len() <= MIDDLING_LIST {
+        let mut some = [0; 1664];
+        return expand_by(file, variables, actions, row, list, &mut some, out);
     }
     let mut many = [0; 6656];
     expand_by(file, variables, actions, row, list, &mut many, out)

@@ -9,7 +9,7 @@ use taskfile::Tallied;
 use taskfile::Task;
 use walk::action::run_list;
 use walk::own_nodes;
-use walk::walk_at;
+use walk::walk_from;
 ghost use mathlib.Core.Path.{_≡_};
 ghost use Rattle.facts.specs.Answers.{checkedAnswer, ranAnswer};
 ghost use Rattle.taskfile.specs.TaskFile.{checkTask, costTask, runTask};
@@ -59,8 +59,9 @@ fn cost_in(
     match partial::state::check_state(&file[1..last], state) {
         Checked::Refused(why) => Costed::Refused(why),
         Checked::Accepted => {
+            let incoming = offset_at(row, Task::INCOMING + action);
             let own = own_nodes(row, action);
-            let walked = walk_at(file, offset_at(row, action), &row[own..], state);
+            let walked = walk_from(file, incoming, &row[own..], state);
             Costed::Cost(walked.cost)
         }
     }

@@ -53,11 +53,15 @@ module _ (f nodes : List ℕ) (m : ℕ) (s : List ℕ) where
   unfoldable pub wayFrom : ℕ → Walk
   wayFrom k = wayUp (suc m - k) k
 
--- the walk of an action whose effect is at an offset, and whose own nodes are noted in `nodes`, from node 1 on
+-- the walk of an action whose incoming weight is at an offset, and whose own nodes are noted in `nodes`, from node 1 on
+unfoldable pub walkFor : List ℕ → ℕ → List ℕ → List ℕ → Walk
+walkFor f incoming nodes s =
+    let w = wayFrom f nodes (getD f (incoming + 2) 0) s 1 in
+    record { cost = wordAt f incoming + w .cost; passed = w .passed }
+
+-- the walk of an action whose effect is at an offset
 unfoldable pub walkPast : List ℕ → ℕ → List ℕ → List ℕ → Walk
-walkPast f effect nodes s =
-    let w = wayFrom f nodes (countPast f effect) s 1 in
-    record { cost = wordAt f (pastPartial f effect) + w .cost; passed = w .passed }
+walkPast f effect nodes s = walkFor f (pastPartial f effect) nodes s
 
 -- the walk of the action at an offset
 unfoldable pub walkAt : List ℕ → ℕ → List ℕ → List ℕ → Walk

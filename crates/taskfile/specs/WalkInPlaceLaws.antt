@@ -25,7 +25,7 @@ use Rattle.taskfile.specs.InPlace.{Lies}
 use Rattle.taskfile.specs.WalkLaws.{edge-there, edge-wf, walk-node, walk-terminal, walk-induction}
 use Rattle.taskfile.specs.DiagramReadLaws.{Diagram-read, diagram-read, node-read, node-edge}
 use Rattle.taskfile.specs.TaskReadLaws.{Action-read, action-read, action-wf}
-use Rattle.taskfile.specs.WalkInPlace.{countPast, incomingPlace, nodeCount, edgeOf, edgeFrom, onward, wayUp, wayFrom, walkPast, walkAt, performBy}
+use Rattle.taskfile.specs.WalkInPlace.{countPast, incomingPlace, nodeCount, edgeOf, edgeFrom, onward, wayUp, wayFrom, walkFor, walkPast, walkAt, performBy}
 use Rattle.taskfile.specs.PartsInPlace.{edgeIn}
 
 -- ---- the edge of the node at an offset
@@ -128,14 +128,23 @@ module _ (f : List ℕ) (at : ℕ) (nodes s : List ℕ) {effect incoming count :
   unfolding nodeCount
   count-same = n ∙ ap (λ (p : ℕ). getD f (p + 2) 0) place-same
 
-module _ (f : List ℕ) (effect : ℕ) (nodes s : List ℕ) {weight count : ℕ} (w : weight ≡ wordAt f (pastPartial f effect)) (n : count ≡ countPast f effect) where
-  pub cost-is : {cost : ℕ} → cost ≡ wayFrom f nodes count s 1 .cost → weight + cost ≡ walkPast f effect nodes s .cost
-  unfolding walkPast
-  cost-is c = rw (← n, w, c)
+module _ (f : List ℕ) (incoming : ℕ) (nodes s : List ℕ) {weight count : ℕ} (w : weight ≡ wordAt f incoming) (n : count ≡ getD f (incoming + 2) 0) where
+  pub cost-for : {cost : ℕ} → cost ≡ wayFrom f nodes count s 1 .cost → weight + cost ≡ walkFor f incoming nodes s .cost
+  unfolding walkFor
+  cost-for c = rw (← n, w, c)
 
-  pub passed-is : {passed : ℕ} → passed ≡ wayFrom f nodes count s 1 .passed → passed ≡ walkPast f effect nodes s .passed
-  unfolding walkPast
-  passed-is p = rw (← n) p
+  pub passed-for : {passed : ℕ} → passed ≡ wayFrom f nodes count s 1 .passed → passed ≡ walkFor f incoming nodes s .passed
+  unfolding walkFor
+  passed-for p = rw (← n) p
+
+pub cost-is : (f : List ℕ) (effect : ℕ) (nodes s : List ℕ) {weight count : ℕ} → weight ≡ wordAt f (pastPartial f effect) → count ≡ countPast f effect → {cost : ℕ} → cost ≡ wayFrom f nodes count s 1 .cost → weight + cost ≡ walkPast f effect nodes s .cost
+unfolding walkPast countPast
+cost-is f effect nodes s w n c = cost-for f (pastPartial f effect) nodes s w n c
+
+-- by the place of the incoming weight
+pub walk-noted : (f : List ℕ) (at : ℕ) (nodes s : List ℕ) {incoming : ℕ} → incoming ≡ incomingPlace f at → walkFor f incoming nodes s ≡ walkAt f at nodes s
+unfolding walkAt walkPast incomingPlace
+walk-noted f at nodes s e = ap (λ (i : ℕ). walkFor f i nodes s) e
 
 pub count-here : (f : List ℕ) (effect : ℕ) {incoming count : ℕ} → incoming ≡ pastPartial f effect → count ≡ getD f (incoming + 2) 0 → count ≡ countPast f effect
 unfolding countPast
@@ -152,7 +161,7 @@ module _ (f : List ℕ) (at : ℕ) {effect : ℕ} (e : Alike f effect (pastParti
   count-behind = alike-byte f (alike-past f e) 2
 
   pub walk-behind : (nodes s : List ℕ) → walkPast f effect nodes s ≡ walkAt f at nodes s
-  unfolding walkAt walkPast countPast
+  unfolding walkAt walkPast walkFor
   walk-behind nodes s = rw (alike-word f (alike-past f e), alike-byte f (alike-past f e) 2)
 
 -- ---- past the end of the file there is nothing
@@ -172,6 +181,12 @@ module _ (f : List ℕ) (at : ℕ) (past : length f < at) where
   pub count-none : nodeCount f at ≡ 0
   unfolding nodeCount
   count-none = List·getD-eq-default f 0 (omega (arith, incoming-past))
+
+  pub weight-none : wordAt f at ≡ 0
+  weight-none = word-cut f at (number-ends f 2 at (omega arith))
+
+  pub byte-none : getD f (at + 2) 0 ≡ 0
+  byte-none = List·getD-eq-default f 0 (omega arith)
 
   pub weight-past : wordAt f (pastPartial f at) ≡ 0
   weight-past = word-cut f (pastPartial f at) (number-ends f 2 (pastPartial f at) (omega (arith, past-on f at)))
@@ -255,7 +270,7 @@ module _ (f : List ℕ) {sizes : List ℕ} {x : Action} {at first : ℕ} {all : 
 
     -- the walk in place is the action's
     pub walk-in-place : walkAt f at (drop first all) s ≡ walk x s
-    unfolding walkAt walkPast countPast nodeCount incomingPlace walk
+    unfolding walkAt walkPast walkFor nodeCount incomingPlace walk
     walk-in-place = rw (count-is, weight-is, way-in-place)
 
     pub perform-in-place : (measure : Walk → ℕ) → performBy measure f at (drop first all) s ≡ attempt (x .pre) (x .eff) (measure (walk x s)) s

@@ -1,6 +1,6 @@
 // Actions in place: one applied, and a list of them run.
 use crate::own_nodes;
-use crate::walk_past;
+use crate::walk_from;
 use facts::Applied;
 use facts::Held;
 use facts::Refusal;
@@ -13,7 +13,8 @@ ghost use mathlib.Core.Path.{_≡_};
 ghost use Prim.Native.Nat.{_≤_};
 ghost use Rattle.facts.specs.Partial.{partialAt};
 ghost use Rattle.facts.specs.Answers.{appliedMove, CostMost};
-ghost use Rattle.taskfile.specs.WalkInPlace.{maxPassed, maxWalk, atCost, performAt, passAt, moveAt, passesAt, runList};
+ghost use Rattle.taskfile.specs.WalkInPlace.{incomingPlace, maxPassed, maxWalk, atCost, performAt, passAt, moveAt, passesAt, runList};
+ghost use Rattle.taskfile.specs.InPlace.{Fronts};
 ghost use Rattle.taskfile.specs.Answers.{sumAnswer, passedAnswer};
 
 // What an action answers, and how many nodes its walk passes.
@@ -22,8 +23,15 @@ pub struct Act {
     pub passed: usize,
 }
 
-// Does the action at an offset: where its precondition holds, its effect is set in the state, and it costs what its walk costs in the state before.
-pub fn apply_action(file: &[u8], at: usize, nodes: &[usize], state: &mut [u8]) -> Act
+// Does the action at an offset, whose incoming weight is at another: where its precondition holds, its effect is set in the state, and it costs what its walk costs in the state before.
+pub fn apply_action(
+    file: &[u8],
+    at: usize,
+    incoming: usize,
+    nodes: &[usize],
+    state: &mut [u8],
+) -> Act
+    requires { ⌜ incoming ≡ incomingPlace (now file) at ⌝ }
     ensures { λ r. ⌜ appliedMove (r .answer) (now (state .exit)) ≡ performAt (now (file .entry)) at (now (nodes .entry)) (now (state .entry)) ⌝ }
     ensures { λ r. ⌜ atCost (r .passed) (appliedMove (r .answer) (now (state .exit))) ≡ passAt (now (file .entry)) at (now (nodes .entry)) (now (state .entry)) ⌝ }
     ensures { λ r. ⌜ CostMost maxWalk (r .answer) ⌝ }
@@ -35,7 +43,7 @@ pub fn apply_action(file: &[u8], at: usize, nodes: &[usize], state: &mut [u8]) -
             passed: 0,
         },
         Held::Ends(effect) => {
-            let walked = walk_past(file, effect, nodes, state);
+            let walked = walk_from(file, incoming, nodes, state);
             apply_at(file, effect, state);
             Act {
                 answer: Applied::Next(walked.cost),
@@ -54,6 +62,7 @@ pub fn run_list(
     list: &[u16],
     state: &mut [u8],
 ) -> Tallied
+    requires { ⌜ Fronts (now file) count (now row) ⌝ }
     ensures { λ r. ⌜ sumAnswer r ≡ runList count (moveAt (now (file .entry)) (now (row .entry))) (partialAt (now (file .entry)) goal) (now (list .entry)) (now (state .entry)) ⌝ }
     ensures { λ r. ⌜ passedAnswer r ≡ runList count (passesAt (now (file .entry)) (now (row .entry))) (partialAt (now (file .entry)) goal) (now (list .entry)) (now (state .entry)) ⌝ }
 {
@@ -69,7 +78,8 @@ pub fn run_list(
             return Tallied::Refused(Refusal::Missing(i));
         }
         let own = own_nodes(row, number);
-        let act = apply_action(file, offset_at(row, number), &row[own..], state);
+        let incoming = offset_at(row, Task::INCOMING + number);
+        let act = apply_action(file, offset_at(row, number), incoming, &row[own..], state);
         let answer = act.answer;
         let Applied::Next(cost) = answer else {
             return Tallied::Refused(Refusal::Blocked(i));

@@ -10,14 +10,14 @@ use partial::length_at;
 use taskfile::Task;
 ghost use mathlib.Core.Path.{_≡_};
 ghost use Prim.Native.Nat.{_+_, _*_, _≤_, min};
-ghost use lib.ListN.{length};
+ghost use lib.ListN.{length, getD};
 ghost use Rattle.facts.specs.Partial.{pastPartial, Alike};
 ghost use Rattle.facts.specs.Fields.{wordAt};
 ghost use Rattle.taskfile.specs.Task.{maxWeight};
 ghost use Rattle.taskfile.specs.TaskFile.{edgeBytes};
 ghost use Rattle.taskfile.specs.Row.{ownFrom};
 ghost use Rattle.taskfile.specs.PartsInPlace.{edgeIn};
-ghost use Rattle.taskfile.specs.WalkInPlace.{countPast, incomingPlace, nodeCount, edgeOf, wayFrom, walkPast, walkAt, maxPassed, maxWalk};
+ghost use Rattle.taskfile.specs.WalkInPlace.{countPast, incomingPlace, nodeCount, edgeOf, wayFrom, walkFor, maxPassed, maxWalk};
 
 // A walk: the weights of its edges added up, and the number of nodes that it passes.
 pub struct Walked {
@@ -55,18 +55,11 @@ pub fn own_nodes(row: &[usize], a: usize) -> usize
     Task::NODES + offset_within(row, Task::FIRSTS + a, most - Task::NODES)
 }
 
-// The walk of the action at an offset, whose own nodes are noted in `nodes`: where each begins, and `Task::MAX_NODES` entries behind that the variable that it tests.
-pub fn walk_at(file: &[u8], at: usize, nodes: &[usize], state: &[u8]) -> Walked
-    ensures { λ r. ⌜ (r .cost ≡ walkAt (now (file .entry)) at (now (nodes .entry)) (now (state .entry)) .cost) × (r .passed ≡ walkAt (now (file .entry)) at (now (nodes .entry)) (now (state .entry)) .passed) × (r .cost ≤ maxWalk) × (r .passed ≤ maxPassed) ⌝ }
+// The walk of the action whose incoming weight is at an offset, and whose own nodes are noted in `nodes`: where each begins, and `Task::MAX_NODES` entries behind that the variable that it tests.
+pub fn walk_from(file: &[u8], incoming: usize, nodes: &[usize], state: &[u8]) -> Walked
+    ensures { λ r. ⌜ (r .cost ≡ walkFor (now (file .entry)) incoming (now (nodes .entry)) (now (state .entry)) .cost) × (r .passed ≡ walkFor (now (file .entry)) incoming (now (nodes .entry)) (now (state .entry)) .passed) × (r .cost ≤ maxWalk) × (r .passed ≤ maxPassed) ⌝ }
 {
-    walk_past(file, effect_at(file, at), nodes, state)
-}
-
-// The walk of the action whose effect is at an offset.
-pub fn walk_past(file: &[u8], effect: usize, nodes: &[usize], state: &[u8]) -> Walked
-    ensures { λ r. ⌜ (r .cost ≡ walkPast (now (file .entry)) effect (now (nodes .entry)) (now (state .entry)) .cost) × (r .passed ≡ walkPast (now (file .entry)) effect (now (nodes .entry)) (now (state .entry)) .passed) × (r .cost ≤ maxWalk) × (r .passed ≤ maxPassed) ⌝ }
-{
-    let diagram = diagram_past(file, effect);
+    let diagram = diagram_from(file, incoming);
     let weight = diagram.incoming;
     let way = way_up(file, nodes, diagram.count, state);
     Walked {
@@ -92,7 +85,19 @@ pub fn diagram_past(file: &[u8], effect: usize) -> Diagram
             count: 0,
         };
     }
-    let incoming = effect + length_at(file, effect);
+    diagram_from(file, effect + length_at(file, effect))
+}
+
+// The same, of the action whose incoming weight is at an offset.
+pub fn diagram_from(file: &[u8], incoming: usize) -> Diagram
+    ensures { λ r. ⌜ (r .incoming ≡ wordAt (now (file .entry)) incoming) × (r .count ≡ getD (now (file .entry)) (incoming + 2) 0) × (r .incoming ≤ maxWeight) × (r .count ≤ maxPassed) ⌝ }
+{
+    if file.len() < incoming {
+        return Diagram {
+            incoming: 0,
+            count: 0,
+        };
+    }
     Diagram {
         incoming: word_at(file, incoming),
         count: byte_at(file, incoming + 2) as usize,

@@ -1,13 +1,15 @@
 -- `task::cost_in` meets its contract: the number, the state, and then the walk by the index. Assumes nothing.
 use Prim.Native.Nat.{ℕ, _+_, _-_}
-use mathlib.Core.Path.{_≡_, sym, ap, ap₂, _∙_}
+use mathlib.Core.Path.{_≡_, sym, ap, _∙_}
 use mathlib.Core.List.{List}
 use denote.Ref.{now}
+use lib.ListN.{getD, drop}
 use Rattle.facts.specs.Answers.{checkedAnswer}
 use Rattle.facts.specs.State.{checkState}
-use Rattle.taskfile.specs.Task.{cost}
+use Rattle.taskfile.specs.Task.{Walk, cost}
 use Rattle.taskfile.specs.Row.{ownFrom}
-use Rattle.taskfile.specs.WalkInPlace.{walkAt}
+use Rattle.taskfile.specs.WalkInPlace.{walkFor}
+use Rattle.taskfile.specs.WalkInPlaceLaws.{walk-noted}
 use Rattle.taskfile.specs.MoveInPlaceLaws.{own-nodes}
 use Rattle.taskfile.specs.AnswerLaws.{starts, ask-missing, ask-state, ask-is, walk-cost}
 use borrow.Author.Needs.{needs}
@@ -32,10 +34,13 @@ returns-3 c =
     let s = c .before .before .before .before .before .before .before .before .before .before .before .before in
     let f = now (s .args .file) in
     let row = now (s .args .row) in
-    let own-walk = ap₂ (λ (at : ℕ) (own : List ℕ). walkAt f at own (now (s .args .state)) .cost) (c .before .before .offset-at .ensures) (own-nodes row (ownFrom row (s .args .action)) (c .before .before .before .own-nodes .ensures)) in
-    sym (ask-is f (s .pre) checkState cost (s .args .action) (now (s .args .state)) (c .before .before .before .before .before .before .before .before .if1 .left) (same s)
+    let a = s .args .action in
+    let known = c .before .before .before .before .before .before .before .before .if1 .left in
+    let own-walk = ap (λ (own : List ℕ). walkFor f (c .before .before .before .offset-at .result) own (now (s .args .state)) .cost) (own-nodes row (ownFrom row a) (c .before .before .own-nodes .ensures)) in
+    let noted = walk-noted f (getD row a 0) (drop (ownFrom row a) row) (now (s .args .state)) (c .before .before .before .offset-at .ensures ∙ s .pre .fronts .incoming a known) in
+    sym (ask-is f (s .pre) checkState cost a (now (s .args .state)) known (same s)
     (sym (c .before .before .before .before .before .before .check-state .ensures) ∙ ap checkedAnswer (c .before .before .before .before .enum-told .given .1))
-    (λ x h ok. c .walk-at .ensures .0 ∙ own-walk ∙ walk-cost f (s .pre) (s .args .action) (now (s .args .state)) h ok))
+    (λ x h ok. c .walk-from .ensures .0 ∙ own-walk ∙ ap (λ (w : Walk). w .cost) noted ∙ walk-cost f (s .pre) a (now (s .args .state)) h ok))
 
 pub cost-in-spec : {M : Type 1} → statement M
 cost-in-spec =
@@ -49,12 +54,13 @@ cost-in-spec =
     (λ c κs. search needs)
     (λ c. search needs)
     (λ c. search needs)
+    (λ c. omega (arith, c .before .before .before .before .if1 .left, starts _ (c .before .before .before .before .before .before .before .before .pre) .actions))
     (λ c κs. search needs)
     (λ c κs. search needs)
     (λ c. search needs)
-    (λ c. omega (arith, c .before .own-nodes .ensures))
-    (λ c. omega (arith, c .before .own-nodes .ensures))
-    (λ c. search needs)
+    (λ c. omega (arith, c .own-nodes .ensures))
+    (λ c. omega (arith, c .own-nodes .ensures))
+    (λ c. omega (arith, c .own-nodes .ensures))
     (λ c κs. search needs)
     returns-2
     returns-3)

@@ -17,11 +17,11 @@ returns c =
 
 returns-2 : tie.Need-returns-2
 returns-2 c =
-    let a = c .before .before .before .before .before .args in
+    let a = c .before .before .before .before .args in
     let f = now (a .file) in
-    let i = past-is f (a .effect) (c .before .before .length-at .ensures .0) in
-    let w = c .before .word-at .ensures in
-    (w .0 ∙ ap (wordAt f) i, count-here f (a .effect) i (c .byte-at .ensures), w .1, search needs)
+    let i = past-is f (a .effect) (c .before .length-at .ensures .0) in
+    let d = c .diagram-from .ensures in
+    (d .0 ∙ ap (wordAt f) i, count-here f (a .effect) i (d .1), d .2, d .3)
 
 pub diagram-past-spec : {M : Type 1} → statement M
 diagram-past-spec =
@@ -31,7 +31,4 @@ diagram-past-spec =
     (λ c κs. search needs)
     (λ c. search needs)
     (λ c κs. search needs)
-    (λ c. search needs)
-    (λ c κs. search needs)
-    (λ c. search needs)
     returns-2)

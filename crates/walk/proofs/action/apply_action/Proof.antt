@@ -7,6 +7,8 @@ use denote.Ref.{now}
 use Rattle.facts.specs.Answers.{heldAnswer, EndsAlike}
 use Rattle.facts.specs.Partial.{pastPartial}
 use Rattle.facts.specs.Run.{next}
+use Rattle.taskfile.specs.Task.{Walk}
+use Rattle.taskfile.specs.WalkInPlaceLaws.{walk-behind, walk-noted}
 use Rattle.taskfile.specs.MoveInPlaceLaws.{performs, performs-not}
 use borrow.Author.Needs.{needs}
 use Rattle.walk.proofs.action.apply_action.Statement.{statement}
@@ -28,11 +30,12 @@ returns-2 c =
     let is = c .before .before .before .before .before .before .before .effect .given .1 in
     let there = subst (EndsAlike f (pastPartial f (a .at))) is (held .held-at .ensures .1) in
     let so = sym (ap heldAnswer is) ∙ held .held-at .ensures .0 in
-    let walked = c .before .before .before .before .walk-past in
+    let walked = c .before .before .before .before .walk-from in
     let w = walked .ensures in
+    let same = walk-noted f (a .at) (now (a .nodes)) (now (a .state)) (held .before .before .before .before .before .pre) ∙ sym (walk-behind f (a .at) there (now (a .nodes)) (now (a .state))) in
     let set = c .before .before .apply-at .ensures .0 in (
-      ap (λ (s : List ℕ). next s (walked .result .cost)) set ∙ performs f (a .at) (now (a .nodes)) (now (a .state)) (λ w. w .cost) there (w .0) so,
-      (ap (λ (s : List ℕ). next s (walked .result .passed)) set ∙ performs f (a .at) (now (a .nodes)) (now (a .state)) (λ w. w .passed) there (w .1) so, (w .2, w .3)),
+      ap (λ (s : List ℕ). next s (walked .result .cost)) set ∙ performs f (a .at) (now (a .nodes)) (now (a .state)) (λ w. w .cost) there (w .0 ∙ ap (λ (x : Walk). x .cost) same) so,
+      (ap (λ (s : List ℕ). next s (walked .result .passed)) set ∙ performs f (a .at) (now (a .nodes)) (now (a .state)) (λ w. w .passed) there (w .1 ∙ ap (λ (x : Walk). x .passed) same) so, (w .2, w .3)),
     )
 
 pub apply-action-spec : {M : Type 1} → statement M
