@@ -50,7 +50,7 @@ fn put_target(out: &mut [u8], at: usize, m: usize, target: usize) -> usize
 }
 
 // An edge, for the value d.
-pub fn put_edge(out: &mut [u8], at: usize, m: usize, d: u8, target: usize, weight: u32) -> usize
+fn put_edge(out: &mut [u8], at: usize, m: usize, d: u8, target: usize, weight: u32) -> usize
     ensures { λ r. ⌜ Adds (edgeText m d (record { target = target; weight = weight })) (now (out .entry)) (now (out .exit)) at r ⌝ }
 {
     let value = put_numbered(out, at, b"    value ", d as u64);
@@ -144,7 +144,7 @@ fn put_cost(
 }
 
 // Both, of the action whose own nodes begin at the offsets `nodes`.
-pub fn put_action(
+fn put_action(
     out: &mut [u8],
     at: usize,
     file: &[u8],

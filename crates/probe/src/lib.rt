@@ -56,7 +56,7 @@ fn run_from_start(file: &[u8], variables: usize, offsets: &[usize], list: &[u16]
 }
 
 // Runs a list from a state: `offsets` has the offset of each step, and the goal starts at `goal`.
-pub fn run_list(file: &[u8], goal: usize, offsets: &[usize], list: &[u16], state: &mut [u8]) -> Ran
+fn run_list(file: &[u8], goal: usize, offsets: &[usize], list: &[u16], state: &mut [u8]) -> Ran
     requires { ⌜ length (now list) ≤ 6656 ⌝ }
     ensures { λ r. ⌜ ranAnswer r ≡ runFrom (length (now (offsets .entry))) (moveAt (now (file .entry)) (now (offsets .entry))) (partialAt (now (file .entry)) goal) 0 0 (now (list .entry)) (now (state .entry)) ⌝ }
 {

@@ -47,7 +47,7 @@ pub fn put_actions(file: &[u8], sizes: &[u8], count: usize, row: &[usize], out: 
 }
 
 // The steps of action a, at an offset, whose effect and incoming weight stand at these and whose own nodes begin at the offsets `nodes`: the start, those of the nodes, the end.
-pub fn put_action(
+fn put_action(
     file: &[u8],
     sizes: &[u8],
     at: usize,
