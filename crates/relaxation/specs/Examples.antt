@@ -1,27 +1,14 @@
--- Document 01's known cases of relaxed cost and estimate, computed.
+-- Estimates of tasks as values, computed: what document 01's known cases, in FileExamples, do not show.
 use mathlib.Core.Path.{_≡_, refl}
 use Prim.Native.Nat.{ℕ}
 use mathlib.Core.List.{List, [], _∷_}
 use Rattle.facts.specs.Partial.{Partial, empty}
-use Rattle.estimate.specs.Number.{exact, never}
+use Rattle.estimate.specs.Number.{exact}
 use Rattle.estimate.specs.Rounds.{settled}
 use Rattle.estimate.specs.Additive.{additiveRound, lastNumbers, additive}
 use Rattle.taskfile.specs.Task.{Edge, Action, Task, walkFrom, walk}
-use Rattle.taskfile.specs.Examples.{P, xy²+z+2}
-use Rattle.relaxation.specs.Relaxed.{relaxedCost}
+use Rattle.taskfile.specs.Examples.{P}
 use Rattle.relaxation.specs.Estimate.{leastCost, estimate}
-
--- ---- xy² + z + 2
-
--- the sets {0,1}, {1,2}, {0}
-pub relaxed-2 : relaxedCost xy²+z+2 (3 ∷ 6 ∷ 1 ∷ []) ≡ 2
-unfolding relaxedCost walk walkFrom
-relaxed-2 = refl
-
--- the sets {1}, {1,2}, {0,1}
-pub relaxed-3 : relaxedCost xy²+z+2 (2 ∷ 6 ∷ 3 ∷ []) ≡ 3
-unfolding relaxedCost walk walkFrom
-relaxed-3 = refl
 
 -- ---- A and B, variables 0 and 1, at 0
 
@@ -51,21 +38,6 @@ set-B = record { pre = empty; eff = B=1; incoming = 1; nodes = [] }
 -- the task with this goal and these actions
 abbrev A-and-B : Partial → List Action → Task
 A-and-B goal actions = record { sizes = 2 ∷ 2 ∷ []; init = 0 ∷ 0 ∷ []; goal = goal; actions = actions }
-
--- goal A=1
-pub estimate-1 : estimate (A-and-B A=1 (set-A ∷ set-B ∷ [])) (0 ∷ 0 ∷ []) ≡ exact 1
-unfolding estimating
-estimate-1 = refl
-
--- without the second action
-pub estimate-2 : estimate (A-and-B A=1 (set-A ∷ [])) (0 ∷ 0 ∷ []) ≡ exact 2
-unfolding estimating
-estimate-2 = refl
-
--- goal B=1 without it
-pub estimate-never : estimate (A-and-B B=1 (set-A ∷ [])) (0 ∷ 0 ∷ []) ≡ never
-unfolding estimating
-estimate-never = refl
 
 -- task P
 estimate-P : estimate P (0 ∷ []) ≡ exact 8

@@ -45,9 +45,9 @@ unfolding relaxing
 short = refl
 
 -- two sets on P, which has one variable
-long : relaxedTask P-bytes 0 (4 ∷ 1 ∷ []) ≡ refused 12 0
+pub two-byte-sets : (x y : ℕ) → relaxedTask P-bytes 0 (x ∷ y ∷ []) ≡ refused 12 0
 unfolding relaxing
-long = refl
+two-byte-sets x y = refl
 
 empty-set : relaxedTask xy²+z+2-bytes 0 (3 ∷ 0 ∷ 4 ∷ []) ≡ refused 4 1
 unfolding relaxing
@@ -77,15 +77,15 @@ abbrev at-1 : ℕ → List ℕ
 at-1 bit = bit ∷ replicate 7 0 ++ 1 ∷ []
 
 -- sets A=1 at 2-2B
-abbrev set-A : List ℕ
+abbrev pub set-A : List ℕ
 set-A = none ++ at-1 1 ++ 0 ∷ 0 ∷ 1 ∷ 1 ∷ 2 ∷ 2 ∷ 0 ∷ 2 ∷ 0 ∷ 0 ∷ []
 
 -- sets B=1 at 1
-abbrev set-B : List ℕ
+abbrev pub set-B : List ℕ
 set-B = none ++ at-1 2 ++ 1 ∷ 0 ∷ 0 ∷ []
 
 -- the file with this goal and these actions, as many as `count` says
-abbrev A-and-B : ℕ → ℕ → List ℕ → List ℕ
+abbrev pub A-and-B : ℕ → ℕ → List ℕ → List ℕ
 A-and-B goal count actions = 2 ∷ 2 ∷ 2 ∷ 0 ∷ 0 ∷ at-1 goal ++ count ∷ actions
 
 pub estimate-1 : estimateTask (A-and-B 1 2 (set-A ++ set-B)) (0 ∷ 0 ∷ []) ≡ accepted (exact 1)

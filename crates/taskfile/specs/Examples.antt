@@ -66,27 +66,27 @@ P-read = refl
 
 -- ---- the table: refusals 1 to 6, of files
 
-zero-bytes : checkTask [] ≡ refused 1 0
+pub zero-bytes : checkTask [] ≡ refused 1 0
 unfolding answering
 zero-bytes = refl
 
-P-and-a-byte : checkTask (P-bytes ++ (0 ∷ [])) ≡ refused 2 40
+pub P-and-a-byte : (byte : ℕ) → checkTask (P-bytes ++ (byte ∷ [])) ≡ refused 2 40
 unfolding answering
-P-and-a-byte = refl
+P-and-a-byte byte = refl
 
-first-byte-00 : checkTask (set P-bytes 0 0) ≡ refused 3 0
+pub first-byte-00 : checkTask (set P-bytes 0 0) ≡ refused 3 0
 unfolding answering
 first-byte-00 = refl
 
-third-byte-02 : checkTask (set P-bytes 2 2) ≡ refused 4 2
+pub third-byte-02 : checkTask (set P-bytes 2 2) ≡ refused 4 2
 unfolding answering
 third-byte-02 = refl
 
-goal-map-02 : checkTask (set P-bytes 3 2) ≡ refused 5 3
+pub goal-map-02 : checkTask (set P-bytes 3 2) ≡ refused 5 3
 unfolding answering
 goal-map-02 = refl
 
-node-variable-01 : checkTask (set P-bytes 33 1) ≡ refused 6 33
+pub node-variable-01 : checkTask (set P-bytes 33 1) ≡ refused 6 33
 unfolding answering
 node-variable-01 = refl
 
@@ -117,7 +117,7 @@ pub empty-list : runTask P-bytes [] ≡ refused 10 0
 unfolding answering
 empty-list = refl
 
-list-1 : runTask P-bytes (1 ∷ []) ≡ refused 11 0
+pub list-1 : runTask P-bytes (1 ∷ []) ≡ refused 11 0
 unfolding answering
 list-1 = refl
 
@@ -134,9 +134,9 @@ cost-of-no-action : costTask P-bytes 1 (0 ∷ 0 ∷ []) ≡ refused 11 0
 unfolding answering
 cost-of-no-action = refl
 
-two-byte-state : costTask P-bytes 0 (2 ∷ 0 ∷ []) ≡ refused 12 0
+pub two-byte-state : (x y : ℕ) → costTask P-bytes 0 (x ∷ y ∷ []) ≡ refused 12 0
 unfolding answering
-two-byte-state = refl
+two-byte-state x y = refl
 
 value-outside : costTask P-bytes 0 (2 ∷ []) ≡ refused 4 0
 unfolding answering
