@@ -19,7 +19,7 @@ use Rattle.facts.specs.WellFormed.{Fits, Values, WfPartial}
 use Rattle.taskfile.specs.Task.{Edge, Node, Action, Task, WfTask, Limits, Weights}
 use Rattle.taskfile.specs.TaskFile.{readTask}
 use Rattle.taskfile.specs.TaskReadLaws.{task-wf, task-limits, task-weights}
-use Rattle.probefile.specs.Probe.{WfStep, WfProbe}
+use Rattle.probefile.specs.Probe.{WfStep, WfProbe, maxValues}
 use Rattle.probefile.specs.ProbeFile.{readProbe, writeProbe}
 use Rattle.probefile.specs.ProbeLaws.{read-written}
 use Rattle.compilation.specs.Extend.{extend, clear}
@@ -181,7 +181,7 @@ module _ (t : Task) where
         record {
           pre = with-marker (suc j) h (facts-more g (omega (arith, w .var-below))) (omega (arith, at-length n));
           eff = with-marker (e .target) h (facts-empty (suc (variables t))) (omega (arith, w .edges i .within));
-          cost = ok .weights h .edges n i;
+          cost = omega (arith, ok .weights h .edges n i);
         }
 
     -- The end of an action is well-formed.
@@ -217,11 +217,11 @@ module _ (t : Task) where
         rw number (action-steps-wf h))
 
     -- Each domain has 2 to 66 values.
-    pub sizes-fit : All (λ d. (2 ≤ d) × (d ≤ 66)) allSizes
+    pub sizes-fit : All (λ d. (2 ≤ d) × (d ≤ maxValues)) allSizes
     sizes-fit =
-        all-append (λ d. (2 ≤ d) × (d ≤ 66)) (t .sizes) (2 ∷ map markerSize (t .actions))
-        (at-all (λ d. (2 ≤ d) × (d ≤ 66)) (t .sizes) (λ j d h. omega (arith, all-at (λ d. (2 ≤ d) × (d ≤ 8)) (ok .limits .sizes) h)))
-        (omega arith, all-map markerSize (λ d. (2 ≤ d) × (d ≤ 66)) (t .actions) (at-all (λ x. (2 ≤ markerSize x) × (markerSize x ≤ 66)) (t .actions) (λ j x h. omega (arith, total-at (λ x. length (x .nodes)) h, ok .limits .nodes))))
+        all-append (λ d. (2 ≤ d) × (d ≤ maxValues)) (t .sizes) (2 ∷ map markerSize (t .actions))
+        (at-all (λ d. (2 ≤ d) × (d ≤ maxValues)) (t .sizes) (λ j d h. omega (arith, all-at (λ d. (2 ≤ d) × (d ≤ 8)) (ok .limits .sizes) h)))
+        (omega arith, all-map markerSize (λ d. (2 ≤ d) × (d ≤ maxValues)) (t .actions) (at-all (λ x. (2 ≤ markerSize x) × (markerSize x ≤ maxValues)) (t .actions) (λ j x h. omega (arith, total-at (λ x. length (x .nodes)) h, ok .limits .nodes))))
 
     -- The probe of an accepted task is well-formed: at most 57 variables of at most 66 values, and at most 576 steps.
     pub compiled-wf : WfProbe (probeOf t)
@@ -231,7 +231,7 @@ module _ (t : Task) where
       variables = omega (arith, sizes-length, ok .limits .variables, ok .limits .actions);
       sizes = sizes-fit;
       init = inside-append (t .sizes) (2 ∷ map markerSize (t .actions)) (t .init) (0 ∷ replicate (length (t .actions)) 0) (ok .wf .init) (omega arith, markers-inside (t .actions));
-      goal = facts-wf (facts-clear (variables t) (suc (length (t .actions))) (task-facts (ok .wf .goal)) (λ w l. omega (arith, all-getD (λ d. (2 ≤ d) × (d ≤ 66)) allSizes w sizes-fit (omega (arith, sizes-length))))) (omega (arith, sizes-length));
+      goal = facts-wf (facts-clear (variables t) (suc (length (t .actions))) (task-facts (ok .wf .goal)) (λ w l. omega (arith, all-getD (λ d. (2 ≤ d) × (d ≤ maxValues)) allSizes w sizes-fit (omega (arith, sizes-length))))) (omega (arith, sizes-length));
       step-count = steps-most t (ok .wf) (ok .limits);
       steps = steps-wf;
     }

@@ -5,6 +5,7 @@ pub mod CompileFile
 -- The document's example, computed.
 pub mod Examples
 -- Laws.
+pub mod ActionCostLaws
 pub mod ExtendLaws
 pub mod AskLaws
 pub mod StepLaws
