@@ -14,7 +14,7 @@ use lib.ListN.{length, take}
 use Rattle.facts.specs.Read.{Read, accepted}
 use Rattle.facts.specs.Bytes.{Bytes}
 use Rattle.facts.specs.Write.{over}
-use Rattle.taskfile.specs.Task.{Task, Plan}
+use Rattle.taskfile.specs.Task.{Task, Plan, maxList, maxWritten}
 use Rattle.taskfile.specs.TaskFile.{readTask}
 use Rattle.taskfile.specs.TaskReadLaws.{task-wf}
 use Rattle.probefile.specs.Probe.{Probe, ProbePlan}
@@ -55,9 +55,9 @@ pub record SameSum (f : List ℕ) (t : Task) (p : Probe) : Type 0 where
   pub within : (N : ℕ) → ((list : List ℕ) × (c : ℕ) × Plan t list c × (c ≤ N)) ↔ ((list : List ℕ) × (c : ℕ) × ProbePlan p list c × (c ≤ N))
   -- "Our two translators carry every source plan of at most 256 actions, wherever the list returned fits the buffer lent for it. Expanding the plan returns
   -- the probe list that comes from it; .. each returns that same sum too."
-  pub expanding : (list : List ℕ) (c : ℕ) → Plan t list c → length list ≤ 256 → Returns (expanded f list) (expand t list) c
+  pub expanding : (list : List ℕ) (c : ℕ) → Plan t list c → length list ≤ maxList → Returns (expanded f list) (expand t list) c
   -- ".. contracting that list returns the source plan; each returns that same sum too."
-  pub contracting : (list : List ℕ) (c : ℕ) → Plan t list c → length list ≤ 256 → Returns (contracted f (expand t list)) list c
+  pub contracting : (list : List ℕ) (c : ℕ) → Plan t list c → length list ≤ maxList → Returns (contracted f (expand t list)) list c
 
 -- the file written from the task file f
 pub record WrittenFile (f : List ℕ) (t : Task) : Type 0 where
@@ -65,7 +65,7 @@ pub record WrittenFile (f : List ℕ) (t : Task) : Type 0 where
   -- the bytes that compiling f writes, into whatever buffer, are read as the probe p
   pub written : (out : List ℕ) (n : ℕ) → compileFile f (length out) ≡ accepted n → readProbe (take n (compiledBuffer f out)) ≡ accepted p
   -- it does write them where a buffer has room for 13,846 bytes
-  pub room : (out : List ℕ) → 13846 ≤ length out → (n : ℕ) × (compileFile f (length out) ≡ accepted n)
+  pub room : (out : List ℕ) → maxWritten ≤ length out → (n : ℕ) × (compileFile f (length out) ≡ accepted n)
   pub sums : SameSum f t p
 
 -- ---- demand 2
@@ -124,7 +124,7 @@ across-and-back f = record {
 }
 
 -- And of each probe plan that comes from at most 256 actions: contracting it returns its source plan, and expanding that returns the probe plan.
-pub probe-carried : {f : List ℕ} {t : Task} {p : Probe} (s : SameSum f t p) (probe-list : List ℕ) (c : ℕ) (q : ProbePlan p probe-list c) → length (s .contracts probe-list c q .list) ≤ 256
+pub probe-carried : {f : List ℕ} {t : Task} {p : Probe} (s : SameSum f t p) (probe-list : List ℕ) (c : ℕ) (q : ProbePlan p probe-list c) → length (s .contracts probe-list c q .list) ≤ maxList
     → Returns (contracted f probe-list) (s .contracts probe-list c q .list) c × Returns (expanded f (s .contracts probe-list c q .list)) probe-list c
 probe-carried {f} {t} s probe-list c q few =
     let from = s .contracts probe-list c q in (

@@ -13,7 +13,7 @@ use Rattle.facts.specs.Write.{over}
 use Rattle.facts.specs.WriteLaws.{fitting-all}
 use Rattle.facts.specs.Run.{atMost}
 use Rattle.facts.specs.RunLaws.{list-fits}
-use Rattle.taskfile.specs.Task.{Task, maxList, taskSum, Plan}
+use Rattle.taskfile.specs.Task.{Task, maxList, taskSum, Plan, maxWritten}
 use Rattle.taskfile.specs.TaskFile.{readTask}
 use Rattle.taskfile.specs.TaskReadLaws.{task-wf, task-limits}
 use Rattle.taskfile.specs.TaskLaws.{task-plan}
@@ -106,7 +106,7 @@ compiled-bytes f out {t} h e =
     w .bytes ∙ ap (λ (z : Task). writeProbe (probeOf z)) same
 
 -- A buffer of 13,846 bytes has room for the probe file of each accepted task.
-pub compiled-answers : (f : List ℕ) {t : Task} → readTask f ≡ accepted t → {room : ℕ} → 13846 ≤ room → compileFile f room ≡ accepted (length (writeProbe (probeOf t)))
+pub compiled-answers : (f : List ℕ) {t : Task} → readTask f ≡ accepted t → {room : ℕ} → maxWritten ≤ room → compileFile f room ≡ accepted (length (writeProbe (probeOf t)))
 unfolding compileFile
 compiled-answers f {t} h {room} l = rw (h, le-leb (written t) room (le-trans (compiled-length f h) l))
 

@@ -12,7 +12,7 @@ use Rattle.facts.specs.Partial.{Partial, writePartial}
 use Rattle.facts.specs.PartialLaws.{length-written, inside-length}
 use Rattle.facts.specs.WellFormed.{WfPartial}
 use Rattle.facts.specs.Fields.{writeEach, writeOperator, writeHead}
-use Rattle.taskfile.specs.Task.{Edge, Node, Action, Task, WfAction, WfTask, Limits}
+use Rattle.taskfile.specs.Task.{Edge, Node, Action, Task, WfAction, WfTask, Limits, maxWritten, maxVariables}
 use Rattle.taskfile.specs.TaskFile.{readTask}
 use Rattle.taskfile.specs.DiagramReadLaws.{Small}
 use Rattle.taskfile.specs.TaskReadLaws.{task-wf, task-limits}
@@ -88,7 +88,7 @@ action-total n a x = omega (arith, total-append stepBytes (flat (nodeSteps n a) 
 pub values-most : {sizes : List ℕ} {p : Partial} → WfPartial sizes p → length (p .values) ≤ length sizes
 values-most {sizes} {p} w = omega (arith, w .count, ones-le (length sizes) (p .map) (w .map-below))
 
-module _ (sizes : List ℕ) (few : length sizes ≤ 24) (small : Small sizes) where
+module _ (sizes : List ℕ) (few : length sizes ≤ maxVariables) (small : Small sizes) where
   -- The steps of an action have at most 91 bytes, and 168 for each node.
   action-bytes : (n a : ℕ) (x : Action) → WfAction sizes x → total stepBytes (actionSteps n a x) ≤ 91 + 168 * length (x .nodes)
   action-bytes n a x w = omega (arith, few, action-total n a x, action-edges small w, values-most (w .pre), values-most (w .eff))
@@ -107,7 +107,7 @@ clear-length p v (suc k) = clear-length (extend p v 0) (suc v) k ∙ simp length
 -- ---- the file
 
 -- The file of a well-formed task inside the limits has at most 13,846 bytes.
-pub compiled-most : (t : Task) → WfTask t → Limits t → length (writeProbe (probeOf t)) ≤ 13846
+pub compiled-most : (t : Task) → WfTask t → Limits t → length (writeProbe (probeOf t)) ≤ maxWritten
 unfolding probeOf stepsOf
 compiled-most t wf limits =
     let n = variables t in
@@ -128,5 +128,5 @@ compiled-most t wf limits =
     )
 
 -- The file written for the task of an accepted file has at most 13,846 bytes.
-pub compiled-length : (f : List ℕ) {t : Task} → readTask f ≡ accepted t → length (writeProbe (probeOf t)) ≤ 13846
+pub compiled-length : (f : List ℕ) {t : Task} → readTask f ≡ accepted t → length (writeProbe (probeOf t)) ≤ maxWritten
 compiled-length f {t} h = compiled-most t (task-wf f h) (task-limits f h)

@@ -7,7 +7,7 @@ use lib.ListN.{length, take}
 use borrow.Author.Tests.{le-leb, leb-true}
 use Rattle.facts.specs.Read.{Read, accepted, refused, check, withValue, _>>=_}
 use Rattle.facts.specs.ReadLaws.{through, checked}
-use Rattle.taskfile.specs.Task.{Task, maxBytes}
+use Rattle.taskfile.specs.Task.{Task, maxBytes, maxWritten}
 use Rattle.taskfile.specs.TaskFile.{readTask}
 use Rattle.taskfile.specs.FrontLaws.{front-enough}
 use Rattle.probefile.specs.ProbeFile.{writeProbe}
@@ -39,11 +39,11 @@ answer-fits f room {n} h =
     subst (λ (k : ℕ). k ≤ room) same fits
 
 -- With room for 13,846 bytes there is no refusal but the file's own.
-pub always-room : (f : List ℕ) → compileFile f 13846 ≡ withValue written (readTask f)
+pub always-room : (f : List ℕ) → compileFile f maxWritten ≡ withValue written (readTask f)
 unfolding compileFile
 always-room f = go (readTask f) (λ t h. compiled-length f h)
   where
-    go : (r : Read Task) → ((t : Task) → r ≡ accepted t → written t ≤ 13846)
-        → _>>=_ r (λ (t : Task). _>>=_ (check (leb (written t) 13846) 7 (written t)) (λ (u : Unit {0}). accepted (written t))) ≡ withValue written r
-    go (accepted t) h = rw (le-leb (written t) 13846 (h t refl))
+    go : (r : Read Task) → ((t : Task) → r ≡ accepted t → written t ≤ maxWritten)
+        → _>>=_ r (λ (t : Task). _>>=_ (check (leb (written t) maxWritten) 7 (written t)) (λ (u : Unit {0}). accepted (written t))) ≡ withValue written r
+    go (accepted t) h = rw (le-leb (written t) maxWritten (h t refl))
     go (refused n p) h = refl

@@ -8,6 +8,7 @@ use Rattle.facts.specs.Lists.{total, All, At, here, there}
 use Rattle.taskfile.specs.Task.{Node, Action, Task, WfAction, WfTask, Limits}
 use Rattle.taskfile.specs.DiagramReadLaws.{Small}
 use Rattle.compilation.specs.Compile.{mapFrom, flat, variables, edgeStep, endStep, nodeSteps, actionSteps, stepsOf, edgeCount, stepCount}
+use Rattle.probefile.specs.Probe.{maxSteps}
 
 -- ---- a property of each element
 
@@ -112,6 +113,6 @@ total-linear [] = refl
 total-linear (x ∷ actions) = omega (arith, total-linear actions)
 
 -- A well-formed task inside the limits has at most 576 steps.
-pub steps-most : (t : Task) → WfTask t → Limits t → length (stepsOf t) ≤ 576
+pub steps-most : (t : Task) → WfTask t → Limits t → length (stepsOf t) ≤ maxSteps
 steps-most t wf limits =
     omega (arith, steps-length t, total-le stepCount (λ x. 2 + 8 * length (x .nodes)) (t .actions) (at-all (λ x. stepCount x ≤ 2 + 8 * length (x .nodes)) (t .actions) (λ a x h. omega (arith, action-edges (limits .sizes) (wf .actions h)))), total-linear (t .actions), limits .nodes, limits .actions)

@@ -13,7 +13,7 @@ use Rattle.facts.specs.Read.{Read, accepted, refused, check, withValue, _>>=_}
 use Rattle.facts.specs.ReadLaws.{through, Made, made, not-made, bind-assoc}
 use Rattle.facts.specs.Bytes.{Bytes}
 use Rattle.facts.specs.Run.{atMost}
-use Rattle.taskfile.specs.Task.{Action, Task, maxList}
+use Rattle.taskfile.specs.Task.{Action, Task, maxList, maxWritten, maxActions}
 use Rattle.taskfile.specs.TaskFile.{readTask, checkTask}
 use Rattle.taskfile.specs.TaskReadLaws.{task-limits}
 use Rattle.probefile.specs.Probe.{probeSum}
@@ -144,7 +144,7 @@ unfolding checkTask contracted
 contract-no-file f list h = rw (not-made (λ (t : Task). tt) (readTask f) h)
 
 -- A refused task file.
-pub contract-refused : (f list : List ℕ) {n p : ℕ} → compileFile f 13846 ≡ refused n p → contracted f list ≡ refused n p
+pub contract-refused : (f list : List ℕ) {n p : ℕ} → compileFile f maxWritten ≡ refused n p → contracted f list ≡ refused n p
 unfolding contracted
 contract-refused f list h = rw (not-made (λ (t : Task). length (writeProbe (probeOf t))) (readTask f) (sym (always-room f) ∙ h))
 
@@ -192,7 +192,7 @@ module _ {f list : List ℕ} {sum : ℕ} (q : ProbePlanOf f list sum) {action-of
   size u = length (contractOf (q .t .actions) list)
 
   -- Each number noted is small.
-  pub noted-small : (r : ℕ) → getD action-of r 0 ≤ 32
+  pub noted-small : (r : ℕ) → getD action-of r 0 ≤ maxActions
   noted-small r = omega (arith, noted-most noted r, task-limits f (q .task) .actions)
 
   -- More than 256 actions.

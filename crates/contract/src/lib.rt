@@ -14,9 +14,6 @@ ghost use Rattle.taskfile.specs.Index.{Ready};
 ghost use Rattle.carry.specs.CarryFile.{contracted, answerIn, bufferIn};
 ghost use Rattle.carry.specs.Answers.{carriedAnswer};
 
-// The most bytes that a written probe file has.
-const WRITTEN: usize = 13846;
-
 // Writes the list of actions that a probe list comes from: the task file's refusals, then 8, per step 11 before 9, 10 at the end, 8 for more than 256
 // actions, and 7 where the buffer is too short; a refusal changes no entry.
 pub fn contract(file: &[u8], list: &[u16], out: &mut [u16]) -> Carried
@@ -72,7 +69,7 @@ fn contract_written(
     ensures { λ r. ⌜ carriedAnswer r ≡ answerIn (length (now (out .entry))) (contracted (now (file .entry)) (now (list .entry))) ⌝ }
     ensures { λ r. ⌜ now (out .exit) ≡ bufferIn (now (out .entry)) (contracted (now (file .entry)) (now (list .entry))) ⌝ }
 {
-    let mut written = [0; WRITTEN];
+    let mut written = [0; Task::MAX_WRITTEN];
     match compile::compile(file, &mut written) {
         Compiled::Refused(why) => Carried::Refused(why),
         Compiled::Length(length) => match probe::run(&written[..length], list) {

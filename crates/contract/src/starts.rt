@@ -5,11 +5,14 @@ use facts::Refusal;
 use facts::number::byte_at;
 use numbering::note_actions;
 use numbering::number_steps;
+use probefile::Probe;
 use taskfile::Task;
 ghost use mathlib.Core.Path.{_≡_};
 ghost use Prim.Native.Nat.{ℕ, _+_, _≤_, _<_};
 ghost use lib.ListN.{length, getD, replicate};
 ghost use Rattle.facts.specs.Write.{Wrote};
+ghost use Rattle.probefile.specs.Probe.{maxSteps};
+ghost use Rattle.taskfile.specs.Task.{maxActions};
 ghost use Rattle.taskfile.specs.Index.{Ready};
 ghost use Rattle.carry.specs.CarryFile.{contracted, answerIn, bufferIn};
 ghost use Rattle.carry.specs.Answers.{carriedAnswer, startsAnswer};
@@ -29,7 +32,7 @@ pub fn contract_plan(
     ensures { λ r. ⌜ carriedAnswer r ≡ answerIn (length (now (out .entry))) (contracted (now (file .entry)) (now (list .entry))) ⌝ }
     ensures { λ r. ⌜ now (out .exit) ≡ bufferIn (now (out .entry)) (contracted (now (file .entry)) (now (list .entry))) ⌝ }
 {
-    let mut action_of = [0; 576];
+    let mut action_of = [0; Probe::MAX_STEPS];
     note_starts(file, variables, actions, row, &mut action_of);
     match count_starts(&action_of, list) {
         Starts::TooMany(i) => Carried::Refused(Refusal::Long(i)),
@@ -44,12 +47,12 @@ pub fn contract_plan(
 
 // Notes at each start's number 1 and the number of its action; at every other step's 0 stays.
 fn note_starts(file: &[u8], variables: usize, actions: usize, row: &[usize], action_of: &mut [u8])
-    requires { ⌜ Ready (now file) variables actions (now row) × (now «action_of» ≡ replicate 576 0) ⌝ }
+    requires { ⌜ Ready (now file) variables actions (now row) × (now «action_of» ≡ replicate maxSteps 0) ⌝ }
     ensures { λ r. ⌜ NotedIn (now (file .entry)) (now («action_of» .exit)) ⌝ }
 {
     let last = 1 + variables;
-    let mut first_step = [0; 33];
-    let mut first_edge = [0; 64];
+    let mut first_step = [0; Task::MAX_ACTIONS + 1];
+    let mut first_edge = [0; Task::MAX_NODES];
     number_steps(
         file,
         &file[1..last],
@@ -83,7 +86,7 @@ fn count_starts(action_of: &[u8], list: &[u16]) -> Starts
 
 // Writes the number of each action that a probe list starts.
 fn put_starts(action_of: &[u8], list: &[u16], out: &mut [u16]) -> usize
-    requires { ⌜ ((r : ℕ) → getD (now «action_of») r 0 ≤ 32) × (length (contractIn (now «action_of») (now list)) ≤ length (now out)) ⌝ }
+    requires { ⌜ ((r : ℕ) → getD (now «action_of») r 0 ≤ maxActions) × (length (contractIn (now «action_of») (now list)) ≤ length (now out)) ⌝ }
     ensures { λ r. ⌜ Wrote (contractIn (now («action_of» .entry)) (now (list .entry))) (now (out .entry)) (now (out .exit)) r ⌝ }
 {
     let mut written: usize = 0;

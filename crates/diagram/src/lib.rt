@@ -14,7 +14,7 @@ ghost use lib.ListN.{length, getD};
 ghost use Rattle.facts.specs.Read.{accepted};
 ghost use Rattle.facts.specs.Answers.{pastAnswer, checkedAnswer};
 ghost use Rattle.facts.specs.Fields.{nextOf};
-ghost use Rattle.taskfile.specs.Task.{maxNodes};
+ghost use Rattle.taskfile.specs.Task.{maxNodes, maxVariables};
 ghost use Rattle.taskfile.specs.TaskFile.{edgeBytes, readTarget, readEdge, readEdges, readNode, readNodes};
 ghost use Rattle.taskfile.specs.Answers.{drawnAnswer};
 ghost use Rattle.taskfile.specs.Row.{nodesFrom, rowLong};
@@ -24,27 +24,21 @@ ghost use Rattle.taskfile.specs.PartsInPlace.{Tests};
 // The bytes of a weight.
 const WEIGHT_BYTES: usize = 2;
 
-// The bytes of an edge, target and weight.
-pub const EDGE_BYTES: usize = 3;
-
 // The variable that stands for the terminal, above all others.
 const TERMINAL: u8 = 255;
 
-// A row of variables by number has an entry for each node, one at 0 and one for the terminal.
-const LEVELS: usize = Task::MAX_NODES + 2;
-
 // Past a diagram, which may have as many nodes as are not used yet; its nodes' offsets and variables are noted in the row of the index, after those that are used.
 pub fn diagram_end(file: &[u8], at: usize, sizes: &[u8], used: usize, row: &mut [usize]) -> Drawn
-    requires { ⌜ (used ≤ 64) × (rowLong ≤ length (now row)) × (length (now sizes) ≤ 24) ⌝ }
-    ensures { λ r. ⌜ drawnAnswer r ≡ diagramAt (now (file .entry)) (now (sizes .entry)) (64 - used) at ⌝ }
-    ensures { λ r. ⌜ ((p : ℕ × ℕ) → drawnAnswer r ≡ accepted p → Placed (now (file .entry)) (now (sizes .entry)) (64 - used) at (nodesFrom + used) (now (row .entry)) (now (row .exit))) ⌝ }
+    requires { ⌜ (used ≤ maxNodes) × (rowLong ≤ length (now row)) × (length (now sizes) ≤ maxVariables) ⌝ }
+    ensures { λ r. ⌜ drawnAnswer r ≡ diagramAt (now (file .entry)) (now (sizes .entry)) (maxNodes - used) at ⌝ }
+    ensures { λ r. ⌜ ((p : ℕ × ℕ) → drawnAnswer r ≡ accepted p → Placed (now (file .entry)) (now (sizes .entry)) (maxNodes - used) at (nodesFrom + used) (now (row .entry)) (now (row .exit))) ⌝ }
 {
     match head::read_count(file, at, 0, (Task::MAX_NODES - used) as u64) {
         Field::Refused(why) => Drawn::Refused(why),
         Field::Value(count) => {
             let m = count as usize;
             let first = Task::NODES + used;
-            let mut levels = [TERMINAL; LEVELS];
+            let mut levels = [TERMINAL; Task::NUMBERS];
             match nodes_end(file, at + 1, sizes, m, &mut row[first..], &mut levels) {
                 Past::Refused(why) => Drawn::Refused(why),
                 Past::Next(end) => match nodes_rise(file, sizes, m, &row[first..], &levels) {
@@ -109,7 +103,7 @@ fn edges_end(file: &[u8], from: usize, m: usize, i: usize, count: usize) -> Past
     requires { ⌜ (from ≤ length (now file)) × (count < 256) ⌝ }
     ensures { λ r. ⌜ pastAnswer r ≡ nextOf (readEdges (now (file .entry)) m i count from) ⌝ }
 {
-    if file.len() - from < EDGE_BYTES * count {
+    if file.len() - from < Task::EDGE_BYTES * count {
         return edges_cut(file, from, m, i, count);
     }
     edges_whole(file, from, m, i, count)
@@ -124,7 +118,7 @@ fn edges_whole(file: &[u8], from: usize, m: usize, i: usize, count: usize) -> Pa
     let mut d: usize = 0;
     while d < count {
         if ahead(file[at] as usize, m, i) {
-            at += EDGE_BYTES;
+            at += Task::EDGE_BYTES;
             d += 1;
             continue;
         }
@@ -220,7 +214,7 @@ fn targets_rise(file: &[u8], levels: &[u8], v: u8, count: u8, from: usize) -> Ch
         if level_of(levels, file[at]) <= v {
             return Checked::Refused(Refusal::Diagram(at));
         }
-        at += EDGE_BYTES;
+        at += Task::EDGE_BYTES;
         left -= 1;
     }
     Checked::Accepted

@@ -6,10 +6,9 @@ use taskfile::Task;
 ghost use mathlib.Core.Path.{_≡_};
 ghost use Prim.Native.Nat.{_*_, _≤_};
 ghost use lib.ListN.{length};
-ghost use Rattle.taskfile.specs.Task.{maxList};
+ghost use Rattle.taskfile.specs.Task.{maxList, maxEntries};
 ghost use Rattle.taskfile.specs.Index.{Ready};
 ghost use Rattle.carry.specs.CarryFile.{expanded, answerIn, bufferIn};
-ghost use Rattle.numbering.specs.InPlace.{maxEntries};
 ghost use Rattle.carry.specs.Answers.{carriedAnswer};
 
 // The most actions of a list whose probe list is written into the smallest buffer, and into the next one: a buffer is filled before it is used.
@@ -49,14 +48,14 @@ fn expand_in(
         return Carried::Refused(Refusal::Long(Task::MAX_LIST));
     }
     if list.len() <= SHORT_LIST {
-        let mut few = [0; 416];
+        let mut few = [0; SHORT_LIST * Task::MAX_ENTRIES];
         return expand_by(file, variables, actions, row, list, &mut few, out);
     }
     if list.len() <= MIDDLING_LIST {
-        let mut some = [0; 1664];
+        let mut some = [0; MIDDLING_LIST * Task::MAX_ENTRIES];
         return expand_by(file, variables, actions, row, list, &mut some, out);
     }
-    let mut many = [0; 6656];
+    let mut many = [0; Task::MAX_LIST * Task::MAX_ENTRIES];
     expand_by(file, variables, actions, row, list, &mut many, out)
 }
 

@@ -16,13 +16,13 @@ ghost use Prim.Native.Nat.{_+_, _*_, _≤_};
 ghost use lib.ListN.{length};
 ghost use Rattle.facts.specs.Partial.{partialAt};
 ghost use Rattle.facts.specs.State.{Inside};
-ghost use Rattle.taskfile.specs.Task.{maxList};
+ghost use Rattle.taskfile.specs.Task.{maxList, maxEntries};
 ghost use Rattle.taskfile.specs.Index.{Ready};
 ghost use Rattle.taskfile.specs.TaskFile.{runTask};
 ghost use Rattle.taskfile.specs.WalkInPlace.{moveAt, runList};
 ghost use Rattle.taskfile.specs.PartsInPlace.{actionsIn};
 ghost use Rattle.plans.specs.Carry.{expandFrom};
-ghost use Rattle.numbering.specs.InPlace.{expansion, maxEntries, Prepared, WroteIf};
+ghost use Rattle.numbering.specs.InPlace.{expansion, Prepared, WroteIf};
 
 // Runs a list of at most 256 actions and writes its probe list; what is written for a list that is refused says nothing.
 pub fn put_plan(
@@ -38,8 +38,8 @@ pub fn put_plan(
 {
     let last = 1 + variables;
     let sizes = &file[1..last];
-    let mut first_step = [0; 33];
-    let mut first_edge = [0; 64];
+    let mut first_step = [0; Task::MAX_ACTIONS + 1];
+    let mut first_edge = [0; Task::MAX_NODES];
     number_steps(file, sizes, actions, row, &mut first_step, &mut first_edge);
     let mut state = initial(file, variables);
     put_list(

@@ -19,6 +19,7 @@ use Rattle.follow.specs.declared.Trail.{Trail}
 use Rattle.follow.specs.declared.Trail.the-variants.{To, Astray}
 use Rattle.follow.specs.declared.Followed.{Followed}
 use Rattle.follow.specs.declared.Followed.the-variants.{Plan, Astray as NoPlan}
+use Rattle.probefile.specs.Probe.{maxSteps}
 
 -- ---- one action
 
@@ -63,7 +64,7 @@ pub record Followable (f sizes : List ℕ) (count : ℕ) (row first-step first-e
   pub well-formed : (a : ℕ) → a < count → WfAction sizes (actionIn f sizes (getD row a 0) (drop (ownFrom row a) row))
   pub tested : AllTested f count row
   pub numbered : Numbered (actionsIn f sizes row 0 count) row first-step first-edge
-  pub few : total stepCount (actionsIn f sizes row 0 count) ≤ 576
+  pub few : total stepCount (actionsIn f sizes row 0 count) ≤ maxSteps
   pub noted : Noted (actionsIn f sizes row 0 count) action-of
 
 -- the first n entries of `out` are actions that lead from the state s to the goal with this sum, and the list comes from them

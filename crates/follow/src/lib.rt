@@ -9,6 +9,7 @@ use numbering::number_steps;
 use partial::apply_at;
 use partial::held_at;
 use partial::holds_at;
+use probefile::Probe;
 use taskfile::Task;
 use walk::diagram_past;
 use walk::edge_for;
@@ -49,10 +50,10 @@ pub fn follow_plan(
 {
     let last = 1 + variables;
     let sizes = &file[1..last];
-    let mut first_step = [0; 33];
-    let mut first_edge = [0; 64];
+    let mut first_step = [0; Task::MAX_ACTIONS + 1];
+    let mut first_edge = [0; Task::MAX_NODES];
     number_steps(file, sizes, actions, row, &mut first_step, &mut first_edge);
-    let mut action_of = [0; 576];
+    let mut action_of = [0; Probe::MAX_STEPS];
     note_actions(&first_step[..actions], &mut action_of);
     let mut state = initial(file, variables);
     follow_list(

@@ -15,6 +15,7 @@ ghost use lib.ListN.{length};
 ghost use Rattle.facts.specs.Read.{accepted};
 ghost use Rattle.facts.specs.Answers.{pastAnswer};
 ghost use Rattle.facts.specs.Fields.{nextOf, readOperator, headAt};
+ghost use Rattle.taskfile.specs.Task.{maxVariables, maxValues, maxActions, maxNodes};
 ghost use Rattle.taskfile.specs.TaskFile.{readActions};
 ghost use Rattle.taskfile.specs.Answers.{drawnAnswer, countedAnswer};
 ghost use Rattle.taskfile.specs.Row.{nodesFrom, rowLong};
@@ -26,7 +27,7 @@ pub fn index_into(file: &[u8], row: &mut [usize]) -> Counted
     requires { ⌜ rowLong ≤ length (now row) ⌝ }
     ensures { λ r. ⌜ (countedAnswer r ≡ taskAt (now (file .entry))) × Noted (now (file .entry)) (countedAnswer r) (now (row .exit)) ⌝ }
 {
-    match head::read_head(file, Task::MAX_VARIABLES, Task::MAX_VALUES) {
+    match head::read_head(file, Task::MAX_VARIABLES as u64, Task::MAX_VALUES as u64) {
         Headed::Refused(why) => Counted::Refused(why),
         Headed::Head(variables, at) => index_actions(file, variables, at, row),
     }
@@ -34,10 +35,10 @@ pub fn index_into(file: &[u8], row: &mut [usize]) -> Counted
 
 // The same, past the head, which ends at `at`.
 fn index_actions(file: &[u8], variables: usize, at: usize, row: &mut [usize]) -> Counted
-    requires { ⌜ (headAt (now file) 24 8 ≡ accepted (variables, at)) × (rowLong ≤ length (now row)) ⌝ }
+    requires { ⌜ (headAt (now file) maxVariables maxValues ≡ accepted (variables, at)) × (rowLong ≤ length (now row)) ⌝ }
     ensures { λ r. ⌜ (countedAnswer r ≡ taskAt (now (file .entry))) × Noted (now (file .entry)) (countedAnswer r) (now (row .exit)) ⌝ }
 {
-    match head::read_count(file, at, 1, Task::MAX_ACTIONS) {
+    match head::read_count(file, at, 1, Task::MAX_ACTIONS as u64) {
         Field::Refused(why) => Counted::Refused(why),
         Field::Value(count) => {
             let actions = count as usize;
@@ -57,8 +58,8 @@ fn index_actions(file: &[u8], variables: usize, at: usize, row: &mut [usize]) ->
 
 // Past the actions, noting where each and its parts stand and which node is its first.
 fn actions_end(file: &[u8], from: usize, sizes: &[u8], count: usize, row: &mut [usize]) -> Past
-    requires { ⌜ (count ≤ 32) × (rowLong ≤ length (now row)) × (length (now sizes) ≤ 24) ⌝ }
-    ensures { λ r. ⌜ (pastAnswer r ≡ nextOf (readActions (now (file .entry)) (now (sizes .entry)) count 64 from)) × Listed (now (file .entry)) (now (sizes .entry)) count from (now (row .exit)) ⌝ }
+    requires { ⌜ (count ≤ maxActions) × (rowLong ≤ length (now row)) × (length (now sizes) ≤ maxVariables) ⌝ }
+    ensures { λ r. ⌜ (pastAnswer r ≡ nextOf (readActions (now (file .entry)) (now (sizes .entry)) count maxNodes from)) × Listed (now (file .entry)) (now (sizes .entry)) count from (now (row .exit)) ⌝ }
     ensures { λ r. ⌜ ((end : ℕ) → pastAnswer r ≡ accepted end → Fronts (now (file .entry)) count (now (row .exit))) ⌝ }
 {
     let mut at = from;
@@ -90,9 +91,9 @@ fn action_end(
     used: usize,
     row: &mut [usize],
 ) -> Drawn
-    requires { ⌜ (used ≤ 64) × (a < 32) × (rowLong ≤ length (now row)) × (length (now sizes) ≤ 24) ⌝ }
-    ensures { λ r. ⌜ drawnAnswer r ≡ actionAt (now (file .entry)) (now (sizes .entry)) (64 - used) at ⌝ }
-    ensures { λ r. ⌜ ((p : ℕ × ℕ) → drawnAnswer r ≡ accepted p → Action-placed (now (file .entry)) (now (sizes .entry)) (64 - used) at (nodesFrom + used) (frontNoted (now (file .entry)) at a (now (row .entry))) (now (row .exit))) ⌝ }
+    requires { ⌜ (used ≤ maxNodes) × (a < maxActions) × (rowLong ≤ length (now row)) × (length (now sizes) ≤ maxVariables) ⌝ }
+    ensures { λ r. ⌜ drawnAnswer r ≡ actionAt (now (file .entry)) (now (sizes .entry)) (maxNodes - used) at ⌝ }
+    ensures { λ r. ⌜ ((p : ℕ × ℕ) → drawnAnswer r ≡ accepted p → Action-placed (now (file .entry)) (now (sizes .entry)) (maxNodes - used) at (nodesFrom + used) (frontNoted (now (file .entry)) at a (now (row .entry))) (now (row .exit))) ⌝ }
 {
     match front_end(file, at, sizes, a, row) {
         Past::Refused(why) => Drawn::Refused(why),
@@ -102,7 +103,7 @@ fn action_end(
 
 // Past the front of action a, its precondition, effect and incoming weight, noting where the last two stand.
 fn front_end(file: &[u8], at: usize, sizes: &[u8], a: usize, row: &mut [usize]) -> Past
-    requires { ⌜ (a < 32) × (rowLong ≤ length (now row)) ⌝ }
+    requires { ⌜ (a < maxActions) × (rowLong ≤ length (now row)) ⌝ }
     ensures { λ r. ⌜ pastAnswer r ≡ nextOf (readOperator (now (file .entry)) (now (sizes .entry)) at) ⌝ }
     ensures { λ r. ⌜ ((end : ℕ) → pastAnswer r ≡ accepted end → now (row .exit) ≡ frontNoted (now (file .entry)) at a (now (row .entry))) ⌝ }
 {

@@ -18,7 +18,7 @@ use Rattle.facts.specs.State.{Inside}
 use Rattle.facts.specs.Write.{over, Wrote}
 use Rattle.facts.specs.Run.{next as went, attempt, atMost}
 use Rattle.facts.specs.RunLaws.{attempt-next, attempt-blocked, not-blocked, list-long}
-use Rattle.taskfile.specs.Task.{Action, Task, Walk, maxList, taskSum, Plan, WfAction}
+use Rattle.taskfile.specs.Task.{Action, Task, Walk, maxList, taskSum, Plan, WfAction, maxEntries}
 use Rattle.taskfile.specs.TaskFile.{readTask, checkTask, runTask}
 use Rattle.taskfile.specs.TaskReadLaws.{task-wf, task-limits}
 use Rattle.taskfile.specs.TaskLaws.{task-plan}
@@ -35,12 +35,13 @@ use Rattle.plans.specs.Carry.{actionList, expandFrom, expand}
 use Rattle.plans.specs.ListLaws.{total-take}
 use Rattle.plans.specs.LengthLaws.{expand-limit}
 use Rattle.carry.specs.CarryFile.{expanded}
-use Rattle.numbering.specs.InPlace.{Edges, Numbered, Writable, maxEntries, expansion, WroteIf, Prepared}
+use Rattle.numbering.specs.InPlace.{Edges, Numbered, Writable, expansion, WroteIf, Prepared}
 use Rattle.numbering.specs.NumberLaws.{actions-at, total-next, actions-are, steps-few, all-tested}
 use Rattle.carry.specs.AnswerLaws.{entry-room, entry-more}
 use Rattle.carry.specs.declared.Carried.{Carried}
 use Rattle.carry.specs.declared.Carried.the-variants.{List as Listed, Refused as NotCarried}
 use Rattle.carry.specs.SameSumLaws.{over-front, expanded-plan, fits-inv}
+use Rattle.probefile.specs.Probe.{maxSteps}
 
 -- The state after what applied.
 attempt-state : (pre eff : Partial) (cost : ℕ) (s : List ℕ) {e : List ℕ} {c : ℕ} → attempt pre eff cost s ≡ went e c → e ≡ apply eff s
@@ -59,7 +60,7 @@ pub record Entry (f sizes : List ℕ) (count : ℕ) (row list s : List ℕ) (i a
   pub well-formed : WfAction sizes (actionIn f sizes at own)
   pub edges : Edges (actionIn f sizes at own .nodes) (1 + first) own-edges
   pub next-is : next ≡ first + stepCount (actionIn f sizes at own)
-  pub few : next ≤ 576
+  pub few : next ≤ maxSteps
   pub cut : Cut (expandFrom (actionsIn f sizes row 0 count) (drop i list) s) (actionList first (actionIn f sizes at own) s)
       (expandFrom (actionsIn f sizes row 0 count) (drop (i + 1) list) (apply (partialAt f (pastPartial f at)) s))
 

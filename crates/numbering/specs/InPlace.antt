@@ -12,7 +12,7 @@ use Rattle.facts.specs.Write.{Wrote}
 use Rattle.facts.specs.Run.{atMost}
 use Rattle.taskfile.specs.Task.{Node, Action, Task, maxList, maxVariables, WfNode, WfAction}
 use Rattle.taskfile.specs.TaskFile.{readTask}
-use Rattle.probefile.specs.Probe.{probeSum, maxList as maxProbeList}
+use Rattle.probefile.specs.Probe.{probeSum, maxList as maxProbeList, maxSteps}
 use Rattle.compilation.specs.Compile.{probeOf, edgeCount, stepCount}
 use Rattle.step_writer.specs.InPlace.{Weighs}
 use Rattle.plans.specs.Carry.{firstStep, pathSteps, startedBy}
@@ -31,7 +31,7 @@ pub record AllTested (f : List ℕ) (count : ℕ) (row : List ℕ) : Type 0 wher
 
 -- There are at most 576 steps, the row has each action and how many nodes the actions before it have, and there is room for so many nodes.
 pub record Rows (actions : List Action) (row : List ℕ) (room : ℕ) : Type 0 where
-  pub few : total stepCount actions ≤ 576
+  pub few : total stepCount actions ≤ maxSteps
   pub first-is : {a : ℕ} {x : Action} → At actions a x → getD row (firstsFrom + a) 0 ≡ nodesBefore actions a
   pub fits : total (λ x. length (x .nodes)) actions ≤ room
   pub long : length actions ≤ length row
@@ -95,14 +95,10 @@ pub record Writable (sizes : List ℕ) (nodes : List Node) (first-edge : List �
   pub inside : Inside sizes s
   pub edges : Edges nodes (1 + first) first-edge
   pub next-is : next ≡ first + (2 + total edgeCount nodes)
-  pub few : next ≤ 576
+  pub few : next ≤ maxSteps
   pub fits : length (entriesOf first nodes s) ≤ room
 
 -- ---- lists of actions
-
--- step numbers of one action: a start, an edge for each variable, an end
-abbrev pub maxEntries : ℕ
-maxEntries = 26
 
 -- the probe list that comes from a list of actions, and no entries where it is refused
 unfoldable pub expansion : List ℕ → List ℕ → List ℕ
@@ -121,4 +117,4 @@ pub record Prepared (f sizes : List ℕ) (count : ℕ) (row first-step first-edg
   pub variables : length sizes ≤ maxVariables
   pub well-formed : {a : ℕ} {x : Action} → At (actionsIn f sizes row 0 count) a x → WfAction sizes x
   pub numbered : Numbered (actionsIn f sizes row 0 count) row first-step first-edge
-  pub few : total stepCount (actionsIn f sizes row 0 count) ≤ 576
+  pub few : total stepCount (actionsIn f sizes row 0 count) ≤ maxSteps

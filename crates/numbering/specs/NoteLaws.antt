@@ -23,6 +23,7 @@ use Rattle.taskfile.specs.PartsInPlaceLaws.{reads, actions-in-place}
 use Rattle.plans.specs.Carry.{firstStep, startedBy}
 use Rattle.plans.specs.Contract.{too-low}
 use Rattle.numbering.specs.InPlace.{Numbered, Noted, NotedIn, noteFrom}
+use Rattle.probefile.specs.Probe.{maxSteps}
 
 -- ---- what is noted
 
@@ -124,15 +125,15 @@ module _ (f : List ℕ) {variables count : ℕ} {row : List ℕ} (ready : Ready 
         getD-take count first-step a 0 (omega (arith, task-there f ready .actions)) ∙ subst (λ (actions : List Action). Numbered actions row first-step first-edge) same n .numbers a (omega arith)
 
     -- It is one of 576 numbers.
-    pub start-below : (a : ℕ) → a < length starts → getD starts a 0 < 576
+    pub start-below : (a : ℕ) → a < length starts → getD starts a 0 < maxSteps
     start-below a h =
         let few = steps-most t (task-wf f (reads f ready)) (task-limits f (reads f ready)) in
         let l : a < length (t .actions) = omega (arith, starts-long) in
         omega (arith, start-at a l, first-below (t .actions) a l, steps-length t, few)
 
     -- Over zeros they are noted, and nothing else.
-    pub note-in : {before now : List ℕ} → before ≡ replicate 576 0 → now ≡ noteFrom 0 starts before → NotedIn f now
+    pub note-in : {before now : List ℕ} → before ≡ replicate maxSteps 0 → now ≡ noteFrom 0 starts before → NotedIn f now
     note-in {before} {now} z m =
-        let all = note-starts (t .actions) starts {size = 576} starts-long start-at (λ a h. start-below a (omega (arith, starts-long))) in
-        let table : now ≡ noteFrom 0 starts (replicate 576 0) = m ∙ ap (noteFrom 0 starts) z in
+        let all = note-starts (t .actions) starts {size = maxSteps} starts-long start-at (λ a h. start-below a (omega (arith, starts-long))) in
+        let table : now ≡ noteFrom 0 starts (replicate maxSteps 0) = m ∙ ap (noteFrom 0 starts) z in
         record { noted = λ other h. let same : t ≡ other = cc (reads f ready, h) in subst (λ (u : Task). Noted (u .actions) now) same (rw table all) }

@@ -25,6 +25,7 @@ use Rattle.probe_writer.specs.InPlaceLaws.{edges-long}
 use Rattle.plans.specs.Carry.{firstStep}
 use Rattle.plans.specs.ListLaws.{total-take, at-same}
 use Rattle.numbering.specs.InPlace.{AllTested, Rows, Edges, Numbered}
+use Rattle.probefile.specs.Probe.{maxSteps}
 
 -- ---- actions in place, by number
 
@@ -162,7 +163,7 @@ module _ {actions : List Action} {row before-step before-edge first-step first-e
 
   module _ {x : Action} (h : At actions a x) (rows : Rows actions row (length before-edge)) where
     -- All steps have numbers of at most 576.
-    pub numbering-small : next + stepCount x ≤ 576
+    pub numbering-small : next + stepCount x ≤ maxSteps
     numbering-small = omega (arith, n .next-is, total-take stepCount h, rows .few)
 
     -- The row of its nodes.
@@ -225,7 +226,7 @@ module _ (f : List ℕ) {variables count : ℕ} {row : List ℕ} (ready : Ready 
   actions-are e = rw e (actions-in-place f ready)
 
   -- There are at most 576 steps.
-  pub steps-few : total stepCount (t .actions) ≤ 576
+  pub steps-few : total stepCount (t .actions) ≤ maxSteps
   steps-few = omega (arith, steps-length t, steps-most t (task-wf f (reads f ready)) (task-limits f (reads f ready)))
 
   -- They can be numbered.

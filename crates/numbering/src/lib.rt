@@ -10,6 +10,8 @@ ghost use Prim.Native.Nat.{ℕ, _+_, _*_, _≤_, _<_};
 ghost use lib.ListN.{length, getD, take, drop};
 ghost use Rattle.facts.specs.Lists.{total};
 ghost use Rattle.facts.specs.Write.{Wrote};
+ghost use Rattle.probefile.specs.Probe.{maxSteps};
+ghost use Rattle.taskfile.specs.Task.{maxVariables, maxActions};
 ghost use Rattle.taskfile.specs.PartsInPlace.{nodesIn, actionsIn, Tested};
 ghost use Rattle.compilation.specs.Compile.{edgeCount};
 ghost use Rattle.numbering.specs.InPlace.{AllTested, Rows, Edges, Numbered, noteFrom};
@@ -57,7 +59,7 @@ fn number_edges(
     from: usize,
     first_edge: &mut [usize],
 ) -> usize
-    requires { ⌜ (count ≤ length (now «first_edge»)) × (from + total edgeCount (nodesIn (now file) (now sizes) (now nodes) 0 count) ≤ 576) × Tested (now file) (now nodes) count ⌝ }
+    requires { ⌜ (count ≤ length (now «first_edge»)) × (from + total edgeCount (nodesIn (now file) (now sizes) (now nodes) 0 count) ≤ maxSteps) × Tested (now file) (now nodes) count ⌝ }
     ensures { λ r. ⌜ r ≡ from + total edgeCount (nodesIn (now (file .entry)) (now (sizes .entry)) (now (nodes .entry)) 0 count) ⌝ }
     ensures { λ r. ⌜ Edges (nodesIn (now (file .entry)) (now (sizes .entry)) (now (nodes .entry)) 0 count) from (now («first_edge» .exit)) ⌝ }
 {
@@ -74,7 +76,7 @@ fn number_edges(
 
 // Notes 1 and the number of each action at the number of its start.
 pub fn note_actions(first_step: &[usize], action_of: &mut [u8])
-    requires { ⌜ (length (now «action_of») ≡ 576) × (length (now «first_step») ≤ 32) × ((a : ℕ) → a < length (now «first_step») → getD (now «first_step») a 0 < 576) ⌝ }
+    requires { ⌜ (length (now «action_of») ≡ maxSteps) × (length (now «first_step») ≤ maxActions) × ((a : ℕ) → a < length (now «first_step») → getD (now «first_step») a 0 < maxSteps) ⌝ }
     ensures { λ r. ⌜ now («action_of» .exit) ≡ noteFrom 0 (now («first_step» .entry)) (now («action_of» .entry)) ⌝ }
 {
     let mut a: usize = 0;
@@ -85,13 +87,13 @@ pub fn note_actions(first_step: &[usize], action_of: &mut [u8])
 }
 
 // The initial state: the values behind the domain sizes.
-pub fn initial(file: &[u8], variables: usize) -> [u8; 24]
-    requires { ⌜ (variables ≤ 24) × (1 + 2 * variables ≤ length (now file)) ⌝ }
-    ensures { λ r. ⌜ (take variables r ≡ take variables (drop (1 + variables) (now (file .entry)))) × (length r ≡ 24) ⌝ }
+pub fn initial(file: &[u8], variables: usize) -> [u8; Task::MAX_VARIABLES]
+    requires { ⌜ (variables ≤ maxVariables) × (1 + 2 * variables ≤ length (now file)) ⌝ }
+    ensures { λ r. ⌜ (take variables r ≡ take variables (drop (1 + variables) (now (file .entry)))) × (length r ≡ maxVariables) ⌝ }
 {
     let init = 1 + variables;
     let goal = init + variables;
-    let mut state = [0; 24];
+    let mut state = [0; Task::MAX_VARIABLES];
     bytes::copy(&file[init..goal], &mut state[..variables]);
     state
 }

@@ -13,7 +13,7 @@ use Rattle.facts.specs.ListLaws.{look, found}
 use Rattle.facts.specs.Partial.{apply}
 use Rattle.facts.specs.PartialLaws.{apply-inside}
 use Rattle.facts.specs.State.{Inside}
-use Rattle.taskfile.specs.Task.{Node, Action, Task, edgeAt, walkFrom, walk, maxList, maxVariables, WfAction, WfTask, Limits}
+use Rattle.taskfile.specs.Task.{Node, Action, Task, edgeAt, walkFrom, walk, maxList, maxVariables, WfAction, WfTask, Limits, maxEntries}
 use Rattle.taskfile.specs.WalkLaws.{passed-most}
 use Rattle.probefile.specs.Probe.{maxList as maxProbeList}
 use Rattle.compilation.specs.Compile.{edgeCount}
@@ -76,7 +76,7 @@ module _ {sizes : List ℕ} {actions : List Action} (wf : (a : ℕ) (x : Action)
   expand-most (a ∷ list) s inside = bounded-entry a list (expand-most list) (getElem? actions a) refl s inside
 
   -- With at most 24 variables, at most 26 entries for each action.
-  pub expand-limit : length sizes ≤ maxVariables → (list s : List ℕ) → Inside sizes s → length (expandFrom actions list s) ≤ 26 * length list
+  pub expand-limit : length sizes ≤ maxVariables → (list s : List ℕ) → Inside sizes s → length (expandFrom actions list s) ≤ maxEntries * length list
   expand-limit few list s inside = le-trans (expand-most list s inside) (mul-le-mul-right (length list) (omega arith))
 
 -- The expansion of a list of at most 256 actions is within the limit of probe lists.

@@ -6,6 +6,7 @@ use estimate::ranks::rank_of;
 use estimate::ranks::sum_rank;
 use facts::number::byte_at;
 use facts::number::offset_at;
+use taskfile::Task;
 use walk::Edge;
 use walk::edge_for;
 ghost use mathlib.Core.Path.{_≡_};
@@ -36,7 +37,7 @@ pub fn least_from(file: &[u8], sizes: &[u8], count: usize, nodes: &[usize], rank
     if count == 0 {
         return 0; // no table is needed
     }
-    let mut least: [u64; 66] = [0; taskfile::NUMBERS];
+    let mut least: [u64; Task::NUMBERS] = [0; Task::NUMBERS];
     let mut k = count;
     while 0 < k {
         least[k] = least_rank(file, sizes, offset_at(nodes, k - 1), ranks, &least);
@@ -71,7 +72,7 @@ fn edges_inside(file: &[u8], node: usize, variable: usize, size: u8, count: usiz
     if file.len() <= node {
         return false;
     }
-    if file.len() - node <= Edge::BYTES * (size as usize) {
+    if file.len() - node <= Task::EDGE_BYTES * (size as usize) {
         return false;
     }
     if estimate::VARIABLES <= variable {
@@ -120,7 +121,7 @@ fn edge_sum(
     if NEVER <= number {
         return FAR;
     }
-    let at = node + (1 + Edge::BYTES * value);
+    let at = node + (1 + Task::EDGE_BYTES * value);
     number + weight_inside(file, at + 1) + rank_at(least, file[at] as usize)
 }
 

@@ -13,6 +13,7 @@ ghost use lib.ListN.{length, take, drop};
 ghost use Rattle.facts.specs.Answers.{checkedAnswer, ranAnswer};
 ghost use Rattle.facts.specs.Partial.{partialAt};
 ghost use Rattle.facts.specs.Run.{runFrom};
+ghost use Rattle.probefile.specs.Probe.{maxVariables, maxList};
 ghost use Rattle.probefile.specs.ProbeFile.{checkProbe, runProbe};
 ghost use Rattle.probefile.specs.InPlace.{moveAt};
 
@@ -45,19 +46,19 @@ pub fn run(file: &[u8], list: &[u16]) -> Ran
 
 // Runs a list from the initial state: `offsets` has the offset of each step.
 fn run_from_start(file: &[u8], variables: usize, offsets: &[usize], list: &[u16]) -> Ran
-    requires { ⌜ (length (now list) ≤ 6656) × (variables ≤ 57) × (1 + 2 * variables ≤ length (now file)) ⌝ }
+    requires { ⌜ (length (now list) ≤ maxList) × (variables ≤ maxVariables) × (1 + 2 * variables ≤ length (now file)) ⌝ }
     ensures { λ r. ⌜ ranAnswer r ≡ runFrom (length (now (offsets .entry))) (moveAt (now (file .entry)) (now (offsets .entry))) (partialAt (now (file .entry)) (1 + 2 * variables)) 0 0 (now (list .entry)) (take variables (drop (1 + variables) (now (file .entry)))) ⌝ }
 {
     let init = 1 + variables;
     let goal = init + variables;
-    let mut state = [0; 57];
+    let mut state = [0; Probe::MAX_VARIABLES];
     bytes::copy(&file[init..goal], &mut state[..variables]);
     run_list(file, goal, offsets, list, &mut state[..variables])
 }
 
 // Runs a list from a state: `offsets` has the offset of each step, and the goal starts at `goal`.
 fn run_list(file: &[u8], goal: usize, offsets: &[usize], list: &[u16], state: &mut [u8]) -> Ran
-    requires { ⌜ length (now list) ≤ 6656 ⌝ }
+    requires { ⌜ length (now list) ≤ maxList ⌝ }
     ensures { λ r. ⌜ ranAnswer r ≡ runFrom (length (now (offsets .entry))) (moveAt (now (file .entry)) (now (offsets .entry))) (partialAt (now (file .entry)) goal) 0 0 (now (list .entry)) (now (state .entry)) ⌝ }
 {
     let mut sum: u32 = 0;

@@ -10,6 +10,7 @@ use lib.Seq.{append-snoc, length-take-le}
 use Rattle.facts.specs.Bytes.{bytesOf}
 use Rattle.facts.specs.Partial.{Partial, writePartial}
 use Rattle.facts.specs.Write.{Wrote}
+use Rattle.taskfile.specs.Task.{maxActions, maxMarkers}
 use Rattle.taskfile.specs.WalkInPlace.{nodeCount}
 use Rattle.compilation.specs.Extend.{extend, clear}
 use Rattle.step_writer.specs.InPlace.{widened}
@@ -63,8 +64,8 @@ zeros-front (suc k) zero h = absurd (omega arith)
 zeros-front (suc k) (suc m) h = ap (λ (l : List ℕ). 0 ∷ l) (zeros-front k m (omega arith))
 
 -- As many zeros as there are further variables.
-further-zeros : (actions : ℕ) → actions ≤ 32 → take {A = ℕ} (1 + actions) (replicate 33 0) ≡ replicate (suc actions) 0
-further-zeros actions h = let e : 1 + actions ≡ suc actions = omega arith in ap (λ (k : ℕ). take {A = ℕ} k (replicate 33 0)) e ∙ zeros-front (suc actions) 33 (omega arith)
+further-zeros : (actions : ℕ) → actions ≤ maxActions → take {A = ℕ} (1 + actions) (replicate maxMarkers 0) ≡ replicate (suc actions) 0
+further-zeros actions h = let e : 1 + actions ≡ suc actions = omega arith in ap (λ (k : ℕ). take {A = ℕ} k (replicate maxMarkers 0)) e ∙ zeros-front (suc actions) maxMarkers (omega arith)
 
 -- A byte for each variable.
 pub init-long : (f : List ℕ) (n actions : ℕ) → 1 + 2 * n ≤ length f → length (initIn f n actions) ≡ n + (1 + actions)
@@ -77,8 +78,8 @@ init-long f n actions h =
     )
 
 -- The task's initial values, and a zero for each further variable, are written.
-pub wrote-init : {before now : List ℕ} {k : ℕ} (f : List ℕ) (n actions : ℕ) {own : ℕ} → own ≡ n → actions ≤ 32
-    → Wrote (take own (drop (1 + n) f) ++ take (1 + actions) (replicate 33 0)) before now k → Wrote (initIn f n actions) before now k
+pub wrote-init : {before now : List ℕ} {k : ℕ} (f : List ℕ) (n actions : ℕ) {own : ℕ} → own ≡ n → actions ≤ maxActions
+    → Wrote (take own (drop (1 + n) f) ++ take (1 + actions) (replicate maxMarkers 0)) before now k → Wrote (initIn f n actions) before now k
 wrote-init {before} {now} {k} f n actions {own} e h w =
     subst₂ (λ (m : ℕ) (zeros : List ℕ). Wrote (take m (drop (1 + n) f) ++ zeros) before now k) e (further-zeros actions h) w
 
@@ -99,8 +100,8 @@ clear-is p n (suc k) bits e =
     rw (m, ← append-snoc (p .values) 0 (replicate k 0)) (clear-is (extend p n 0) (suc n) k (bits - 2 ^ n) above)
 
 -- The goal with semaphore and markers at 0.
-pub goal-is : (p : Partial) (n actions bits : ℕ) → actions ≤ 32 → bits + 2 ^ n ≡ 2 ^ (n + (1 + actions))
-    → widened p bits (take (1 + actions) (replicate 33 0)) ≡ clear p n (suc actions)
+pub goal-is : (p : Partial) (n actions bits : ℕ) → actions ≤ maxActions → bits + 2 ^ n ≡ 2 ^ (n + (1 + actions))
+    → widened p bits (take (1 + actions) (replicate maxMarkers 0)) ≡ clear p n (suc actions)
 goal-is p n actions bits h e =
     let s : 1 + actions ≡ suc actions = omega arith in
     ap (widened p bits) (further-zeros actions h) ∙ clear-is p n (suc actions) bits (e ∙ ap (λ (k : ℕ). 2 ^ (n + k)) s)
@@ -110,8 +111,8 @@ pub row-fits : (map n k bits : ℕ) → map < 2 ^ n → n + k < 64 → bits + 2 
 row-fits map n k bits h l e = omega (arith, h, e, pow-mono {i = n + k} {j = 63} (omega arith))
 
 -- The goal is written, with semaphore and markers at 0.
-pub wrote-goal : {before now : List ℕ} {k : ℕ} (p : Partial) (n actions bits : ℕ) → actions ≤ 32 → bits + 2 ^ n ≡ 2 ^ (n + (1 + actions))
-    → Wrote (writePartial (widened p bits (take (1 + actions) (replicate 33 0)))) before now k → Wrote (writePartial (clear p n (suc actions))) before now k
+pub wrote-goal : {before now : List ℕ} {k : ℕ} (p : Partial) (n actions bits : ℕ) → actions ≤ maxActions → bits + 2 ^ n ≡ 2 ^ (n + (1 + actions))
+    → Wrote (writePartial (widened p bits (take (1 + actions) (replicate maxMarkers 0)))) before now k → Wrote (writePartial (clear p n (suc actions))) before now k
 wrote-goal {before} {now} {k} p n actions bits h e w = subst (λ (q : Partial). Wrote (writePartial q) before now k) (goal-is p n actions bits h e) w
 
 -- ---- all of it

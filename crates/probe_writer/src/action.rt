@@ -1,7 +1,6 @@
 // The steps of actions, each written straight after the last one.
 use facts::number::byte_at;
 use facts::number::offset_at;
-use step_writer::step::EDGE_BYTES;
 use step_writer::step::put_edge;
 use step_writer::step::put_end;
 use step_writer::step::put_start;
@@ -13,6 +12,7 @@ ghost use lib.ListN.{length, getD, drop};
 ghost use Rattle.facts.specs.Partial.{pastPartial};
 ghost use Rattle.facts.specs.Fields.{writeEach};
 ghost use Rattle.facts.specs.Write.{Wrote};
+ghost use Rattle.taskfile.specs.Task.{maxVariables, maxActions, maxNodes};
 ghost use Rattle.taskfile.specs.Row.{ownFrom};
 ghost use Rattle.taskfile.specs.InPlace.{Fronts};
 ghost use Rattle.taskfile.specs.WalkInPlace.{incomingPlace};
@@ -22,7 +22,7 @@ ghost use Rattle.taskfile.specs.PartsInPlace.{nodeIn, nodesIn, actionIn, action
 
 // The steps of all `count` actions, by the row of the index.
 pub fn put_actions(file: &[u8], sizes: &[u8], count: usize, row: &[usize], out: &mut [u8]) -> usize
-    requires { ⌜ (length (now sizes) ≤ 24) × (count ≤ 32) × (count ≤ length (now row)) × Fronts (now file) count (now row) ⌝ }
+    requires { ⌜ (length (now sizes) ≤ maxVariables) × (count ≤ maxActions) × (count ≤ length (now row)) × Fronts (now file) count (now row) ⌝ }
     requires { ⌜ ((a : ℕ) → a < count → Stood (now file) (now sizes) (getD (now row) a 0) (drop (ownFrom (now row) a) (now row))) ⌝ }
     requires { ⌜ length (writeEach writeStep (flat (actionSteps (length (now sizes))) 0 (actionsIn (now file) (now sizes) (now row) 0 count))) ≤ length (now out) ⌝ }
     ensures { λ r. ⌜ Wrote (writeEach writeStep (flat (actionSteps (length (now (sizes .entry)))) 0 (actionsIn (now (file .entry)) (now (sizes .entry)) (now (row .entry)) 0 count))) (now (out .entry)) (now (out .exit)) r ⌝ }
@@ -57,7 +57,7 @@ fn put_action(
     a: usize,
     out: &mut [u8],
 ) -> usize
-    requires { ⌜ Stood (now file) (now sizes) at (now nodes) × (effect ≡ pastPartial (now file) at) × (incoming ≡ incomingPlace (now file) at) × (length (now sizes) ≤ 24) × (a < 32) ⌝ }
+    requires { ⌜ Stood (now file) (now sizes) at (now nodes) × (effect ≡ pastPartial (now file) at) × (incoming ≡ incomingPlace (now file) at) × (length (now sizes) ≤ maxVariables) × (a < maxActions) ⌝ }
     requires { ⌜ length (writeEach writeStep (actionSteps (length (now sizes)) a (actionIn (now file) (now sizes) at (now nodes)))) ≤ length (now out) ⌝ }
     ensures { λ r. ⌜ Wrote (writeEach writeStep (actionSteps (length (now (sizes .entry))) a (actionIn (now (file .entry)) (now (sizes .entry)) at (now (nodes .entry))))) (now (out .entry)) (now (out .exit)) r ⌝ }
 {
@@ -77,7 +77,7 @@ fn put_nodes(
     a: usize,
     out: &mut [u8],
 ) -> usize
-    requires { ⌜ (length (now sizes) ≤ 24) × (a < 32) × (count ≤ 64) ⌝ }
+    requires { ⌜ (length (now sizes) ≤ maxVariables) × (a < maxActions) × (count ≤ maxNodes) ⌝ }
     requires { ⌜ ((j : ℕ) → j < count → Tests (now file) (now sizes) (getD (now nodes) j 0)) ⌝ }
     requires { ⌜ length (writeEach writeStep (flat (nodeSteps (length (now sizes)) a) 1 (nodesIn (now file) (now sizes) (now nodes) 0 count))) ≤ length (now out) ⌝ }
     ensures { λ r. ⌜ Wrote (writeEach writeStep (flat (nodeSteps (length (now (sizes .entry))) a) 1 (nodesIn (now (file .entry)) (now (sizes .entry)) (now (nodes .entry)) 0 count))) (now (out .entry)) (now (out .exit)) r ⌝ }
@@ -94,7 +94,7 @@ fn put_nodes(
 
 // The steps of node i of action a, at an offset, one for each value of its variable.
 fn put_node(file: &[u8], sizes: &[u8], node: usize, a: usize, i: u8, out: &mut [u8]) -> usize
-    requires { ⌜ Tests (now file) (now sizes) node × (length (now sizes) ≤ 24) × (a < 32) ⌝ }
+    requires { ⌜ Tests (now file) (now sizes) node × (length (now sizes) ≤ maxVariables) × (a < maxActions) ⌝ }
     requires { ⌜ length (writeEach writeStep (nodeSteps (length (now sizes)) a i (nodeIn (now file) (now sizes) node))) ≤ length (now out) ⌝ }
     ensures { λ r. ⌜ Wrote (writeEach writeStep (nodeSteps (length (now (sizes .entry))) a i (nodeIn (now (file .entry)) (now (sizes .entry)) node))) (now (out .entry)) (now (out .exit)) r ⌝ }
 {
@@ -106,7 +106,7 @@ fn put_node(file: &[u8], sizes: &[u8], node: usize, a: usize, i: u8, out: &mut [
     let mut d: usize = 0;
     while d < count {
         at += put_edge(file, edge, n, a, i, v, d as u8, &mut out[at..]);
-        edge += EDGE_BYTES;
+        edge += Task::EDGE_BYTES;
         d += 1;
     }
     at

@@ -15,6 +15,7 @@ ghost use lib.ListN.{length, getD};
 ghost use Rattle.facts.specs.Bytes.{bytesOf};
 ghost use Rattle.facts.specs.Partial.{partialAt, partialBytes, writePartial};
 ghost use Rattle.facts.specs.Write.{Wrote};
+ghost use Rattle.taskfile.specs.Task.{maxVariables, maxActions};
 ghost use Rattle.taskfile.specs.Row.{incomingFrom};
 ghost use Rattle.taskfile.specs.PartsInPlace.{Stands};
 ghost use Rattle.step_writer.specs.InPlace.{Weighs};
@@ -22,7 +23,7 @@ ghost use Rattle.probe_writer.specs.HeadInPlace.{markersIn, sizesIn, ini
 
 // The length of head and step count, for a task with n variables: a byte for the number of variables, one for each size and initial value, the goal, two bytes.
 pub fn head_length(file: &[u8], n: usize, actions: usize) -> usize
-    requires { ⌜ (n ≤ 24) × (actions ≤ 32) × (1 + 2 * n ≤ length (now file)) ⌝ }
+    requires { ⌜ (n ≤ maxVariables) × (actions ≤ maxActions) × (1 + 2 * n ≤ length (now file)) ⌝ }
     ensures { λ r. ⌜ (r ≡ 3 + 2 * n + partialBytes (partialAt (now (file .entry)) (1 + 2 * n)) + 3 * (1 + actions)) × (r ≤ 222) ⌝ }
 {
     let goal = 1 + 2 * n;
@@ -38,7 +39,7 @@ pub fn put_head(
     steps: usize,
     out: &mut [u8],
 ) -> usize
-    requires { ⌜ (n ≤ 24) × (actions ≤ 32) × (steps < 65536) × Stands (now file) n (1 + 2 * n) ⌝ }
+    requires { ⌜ (n ≤ maxVariables) × (actions ≤ maxActions) × (steps < 65536) × Stands (now file) n (1 + 2 * n) ⌝ }
     requires { ⌜ ((a : ℕ) → a < actions → Weighs (now file) (getD (now row) a 0) (getD (now row) (incomingFrom + a) 0)) ⌝ }
     requires { ⌜ length (headIn (now file) n actions (now row) ++ bytesOf 2 steps) ≤ length (now out) ⌝ }
     ensures { λ r. ⌜ Wrote (headIn (now (file .entry)) n actions (now (row .entry)) ++ bytesOf 2 steps) (now (out .entry)) (now (out .exit)) r ⌝ }
@@ -51,7 +52,7 @@ pub fn put_head(
 
 // The number of variables and the domain sizes: those of the task, 2 for the semaphore, one for each marker.
 fn put_sizes(file: &[u8], n: usize, actions: usize, row: &[usize], out: &mut [u8]) -> usize
-    requires { ⌜ (n ≤ 24) × (actions ≤ 32) × (1 + 2 * n ≤ length (now file)) ⌝ }
+    requires { ⌜ (n ≤ maxVariables) × (actions ≤ maxActions) × (1 + 2 * n ≤ length (now file)) ⌝ }
     requires { ⌜ ((a : ℕ) → a < actions → Weighs (now file) (getD (now row) a 0) (getD (now row) (incomingFrom + a) 0)) ⌝ }
     requires { ⌜ 2 + n + actions ≤ length (now out) ⌝ }
     ensures { λ r. ⌜ Wrote (sizesIn (now (file .entry)) n actions (now (row .entry))) (now (out .entry)) (now (out .exit)) r ⌝ }
@@ -66,7 +67,7 @@ fn put_sizes(file: &[u8], n: usize, actions: usize, row: &[usize], out: &mut [u8
 // The domain size of each action's marker: 0, each node and the terminal.
 fn put_markers(file: &[u8], actions: usize, row: &[usize], out: &mut [u8]) -> usize
     requires { ⌜ ((a : ℕ) → a < actions → Weighs (now file) (getD (now row) a 0) (getD (now row) (incomingFrom + a) 0)) ⌝ }
-    requires { ⌜ (actions ≤ length (now out)) × (actions ≤ 32) ⌝ }
+    requires { ⌜ (actions ≤ length (now out)) × (actions ≤ maxActions) ⌝ }
     ensures { λ r. ⌜ Wrote (markersIn (now (file .entry)) (now (row .entry)) 0 actions) (now (out .entry)) (now (out .exit)) r ⌝ }
 {
     let mut at: usize = 0;
@@ -82,11 +83,11 @@ fn put_markers(file: &[u8], actions: usize, row: &[usize], out: &mut [u8]) -> us
 
 // The initial values: those of the task, then semaphore and markers at 0.
 fn put_init(file: &[u8], n: usize, actions: usize, out: &mut [u8]) -> usize
-    requires { ⌜ (n ≤ 24) × (actions ≤ 32) × (1 + 2 * n ≤ length (now file)) ⌝ }
+    requires { ⌜ (n ≤ maxVariables) × (actions ≤ maxActions) × (1 + 2 * n ≤ length (now file)) ⌝ }
     requires { ⌜ n + (1 + actions) ≤ length (now out) ⌝ }
     ensures { λ r. ⌜ Wrote (initIn (now (file .entry)) n actions) (now (out .entry)) (now (out .exit)) r ⌝ }
 {
-    let zeros: [u8; 33] = [0; 33];
+    let zeros: [u8; Task::MAX_MARKERS] = [0; Task::MAX_MARKERS];
     let from = 1 + n;
     let end = from + n;
     let further = 1 + actions;
@@ -96,11 +97,11 @@ fn put_init(file: &[u8], n: usize, actions: usize, out: &mut [u8]) -> usize
 
 // The goal: the task's, with semaphore and markers at 0.
 fn put_goal(file: &[u8], n: usize, actions: usize, out: &mut [u8]) -> usize
-    requires { ⌜ (n ≤ 24) × (actions ≤ 32) × Stands (now file) n (1 + 2 * n) ⌝ }
+    requires { ⌜ (n ≤ maxVariables) × (actions ≤ maxActions) × Stands (now file) n (1 + 2 * n) ⌝ }
     requires { ⌜ length (writePartial (goalIn (now file) n actions)) ≤ length (now out) ⌝ }
     ensures { λ r. ⌜ Wrote (writePartial (goalIn (now (file .entry)) n actions)) (now (out .entry)) (now (out .exit)) r ⌝ }
 {
-    let zeros: [u8; 33] = [0; 33];
+    let zeros: [u8; Task::MAX_MARKERS] = [0; Task::MAX_MARKERS];
     let further = 1 + actions;
     let bits = row_of_bits(n, further);
     let goal = 1 + 2 * n;

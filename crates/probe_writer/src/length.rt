@@ -7,6 +7,7 @@ ghost use mathlib.Core.Path.{_≡_};
 ghost use Prim.Native.Nat.{ℕ, _+_, _*_, _≤_, _<_};
 ghost use lib.ListN.{length, getD, drop};
 ghost use Rattle.facts.specs.Lists.{total};
+ghost use Rattle.taskfile.specs.Task.{maxVariables, maxActions};
 ghost use Rattle.taskfile.specs.Row.{ownFrom};
 ghost use Rattle.taskfile.specs.InPlace.{Fronts};
 ghost use Rattle.compilation.specs.Compile.{flat, actionSteps, edgeCount};
@@ -27,7 +28,7 @@ pub struct Extent {
 
 // The steps of all `count` actions, by the row of the index.
 pub fn extent_of(file: &[u8], sizes: &[u8], count: usize, row: &[usize]) -> Extent
-    requires { ⌜ (length (now sizes) ≤ 24) × (count ≤ 32) × (count ≤ length (now row)) × Fronts (now file) count (now row) ⌝ }
+    requires { ⌜ (length (now sizes) ≤ maxVariables) × (count ≤ maxActions) × (count ≤ length (now row)) × Fronts (now file) count (now row) ⌝ }
     requires { ⌜ ((a : ℕ) → a < count → Stood (now file) (now sizes) (getD (now row) a 0) (drop (ownFrom (now row) a) (now row))) ⌝ }
     ensures { λ r. ⌜ r .steps ≡ length (flat (actionSteps (length (now (sizes .entry)))) 0 (actionsIn (now (file .entry)) (now (sizes .entry)) (now (row .entry)) 0 count)) ⌝ }
     ensures { λ r. ⌜ r .bytes ≡ total stepBytes (flat (actionSteps (length (now (sizes .entry)))) 0 (actionsIn (now (file .entry)) (now (sizes .entry)) (now (row .entry)) 0 count)) ⌝ }

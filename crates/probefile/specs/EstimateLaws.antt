@@ -26,7 +26,7 @@ use Rattle.estimate.specs.RanksLaws.{roomy}
 use Rattle.estimate.specs.FallLaws.{Supported, constant-supported, all-supported}
 use Rattle.estimate.specs.InTurn.{InTurn}
 use Rattle.estimate.specs.InTurnLaws.{Turning, turning-more, turning-end}
-use Rattle.probefile.specs.Probe.{Step, WfStep}
+use Rattle.probefile.specs.Probe.{Step, WfStep, maxVariables, maxValues}
 use Rattle.probefile.specs.ProbeLaws.{probe-lines, probe-wf}
 use Rattle.probefile.specs.InPlace.{probeAt, stepAt, Located, Costed}
 use Rattle.probefile.specs.IndexLaws.{not-read, steps-in-place, costs-in-place, accepted-probe, starts}
@@ -91,7 +91,7 @@ in-place f {n} {k} bytes h offsets loc few =
       reads = a .reads;
       wf = probe-wf f bytes (a .reads);
       fits = st .fits;
-      sizes = ap (λ (n : ℕ). take n (drop 1 f)) (sym count) ∙ sym (head-read f 57 66 (l .head-is) .sizes) ∙ l .sizes;
+      sizes = ap (λ (n : ℕ). take n (drop 1 f)) (sym count) ∙ sym (head-read f maxVariables maxValues (l .head-is) .sizes) ∙ l .sizes;
       goal = st .goal;
       steps = ap (λ (j : ℕ). map (stepAt f) (take j offsets)) (sym (a .steps)) ∙ steps-in-place f offsets (a .reads) loc (omega (arith, a .steps));
       costs = subst (λ (j : ℕ). Costed f (take j offsets)) (a .steps) (costs-in-place f offsets (a .reads) loc (omega (arith, a .steps)));

@@ -13,13 +13,9 @@ use Rattle.facts.specs.Fields.{readNumber, readOperator, readEnd}
 use Rattle.facts.specs.FieldLaws.{end-read}
 use Rattle.facts.specs.HeadLaws.{head-read}
 use Rattle.facts.specs.FrontLaws.{operatorReach, operator-reach, head-reach, each-most, then-same, field-same, each-same, head-same, operator-same, number-front, end-front}
-use Rattle.probefile.specs.Probe.{Step, Probe, maxVariables, maxValues, maxSteps}
+use Rattle.probefile.specs.Probe.{Step, Probe, maxVariables, maxValues, maxSteps, maxBytes}
 use Rattle.probefile.specs.ProbeFile.{readStep, readStepCount, readSteps, readProbe}
 use Rattle.probefile.specs.ProbeLaws.{probe-lines, count-most}
-
--- the most bytes that an accepted probe file has
-abbrev pub maxBytes : ℕ
-maxBytes = 76214
 
 step-reach : (f sizes : List ℕ) (at : ℕ) {st : Step} {e : ℕ} → length sizes ≤ maxVariables → readStep f sizes at ≡ accepted (st, e) → e ≤ at + operatorReach maxVariables
 unfolding readStep

@@ -9,7 +9,7 @@ use Rattle.facts.specs.Lists.{At}
 use Rattle.facts.specs.Partial.{partialAt, pastPartial}
 use Rattle.facts.specs.Fields.{nextOf, valueOf, headAt, wordAt}
 use Rattle.facts.specs.Run.{Move}
-use Rattle.probefile.specs.Probe.{Step, Probe, perform}
+use Rattle.probefile.specs.Probe.{Step, Probe, perform, maxVariables, maxValues}
 use Rattle.probefile.specs.ProbeFile.{readStep, readStepCount, readSteps, readProbe}
 use Rattle.probefile.specs.declared.Counted.{Counted}
 use Rattle.probefile.specs.declared.Counted.the-variants.{Steps, Refused as NotCounted}
@@ -20,7 +20,7 @@ probeAt f = withValue (λ p. (length (p .sizes), length (p .steps))) (readProbe 
 
 -- what is told of what stands before the steps is the head's end and the counts, or why the file is refused
 abbrev pub CountedIn : List ℕ → Counted → Type 0
-CountedIn f (Steps variables at steps) = (headAt f 57 66 ≡ accepted (variables, at)) × (valueOf (readStepCount f at) ≡ accepted steps)
+CountedIn f (Steps variables at steps) = (headAt f maxVariables maxValues ≡ accepted (variables, at)) × (valueOf (readStepCount f at) ≡ accepted steps)
 CountedIn f (NotCounted why) = probeAt f ≡ refused (number why) (place why)
 
 -- the step at an offset, as its bytes stand

@@ -17,7 +17,7 @@ use Rattle.facts.specs.Fields.{nextOf, valueOf, Head, readHead, headAt, readEnd
 use Rattle.facts.specs.EachLaws.{each-length, each-at}
 use Rattle.facts.specs.PartialReadLaws.{partial-read}
 use Rattle.facts.specs.HeadLaws.{head-read, headed, headed-sizes, no-head}
-use Rattle.probefile.specs.Probe.{Step, Probe, maxSteps, maxList, perform, stepMove, probeSum}
+use Rattle.probefile.specs.Probe.{Step, Probe, maxSteps, maxList, perform, stepMove, probeSum, maxVariables, maxValues}
 use Rattle.probefile.specs.ProbeFile.{readStep, readStepCount, readSteps, readProbe, checkProbe, runProbe}
 use Rattle.probefile.specs.ProbeLaws.{probe-lines, count-most, move-at}
 use Rattle.probefile.specs.InPlace.{probeAt, stepAt, moveAt, Within, Marked, Located, CostBefore, Costed}
@@ -47,16 +47,16 @@ module _ (f : List ℕ) where
 
   -- ---- the ways in which a file can go
 
-  pub probe-no-head : {n p : ℕ} → headAt f 57 66 ≡ refused n p → probeAt f ≡ refused n p
+  pub probe-no-head : {n p : ℕ} → headAt f maxVariables maxValues ≡ refused n p → probeAt f ≡ refused n p
   unfolding probeAt readProbe
-  probe-no-head h = rw (no-head f 57 66 h)
+  probe-no-head h = rw (no-head f maxVariables maxValues h)
 
-  module _ {n at : ℕ} (h : headAt f 57 66 ≡ accepted (n, at)) where
+  module _ {n at : ℕ} (h : headAt f maxVariables maxValues ≡ accepted (n, at)) where
     abbrev head : Head
-    head = headed f 57 66 h .head
+    head = headed f maxVariables maxValues h .head
 
-    abbrev head-is : readHead f 57 66 ≡ accepted (head, at)
-    head-is = headed f 57 66 h .is
+    abbrev head-is : readHead f maxVariables maxValues ≡ accepted (head, at)
+    head-is = headed f maxVariables maxValues h .is
 
     pub probe-no-count : {k p : ℕ} → valueOf (readStepCount f at) ≡ refused k p → probeAt f ≡ refused k p
     unfolding probeAt readProbe
@@ -88,7 +88,7 @@ module _ (f : List ℕ) where
         sizes = take k (drop 1 f)
 
         sizes-are : head .sizes ≡ sizes
-        sizes-are = headed-sizes f 57 66 h same
+        sizes-are = headed-sizes f maxVariables maxValues h same
 
         pub probe-no-steps : {m p : ℕ} → nextOf (readSteps f sizes count (at + 2)) ≡ refused m p → probeAt f ≡ refused m p
         unfolding probeAt readProbe
@@ -111,7 +111,7 @@ module _ (f : List ℕ) where
 
           pub probe-good : length f ≤ end → probeAt f ≡ accepted (n, count)
           unfolding probeAt readProbe readEnd
-          probe-good l = rw (head-is, count-is, sizes-are, steps-are, le-leb (length f) end l) (ap₂ (λ (i j : ℕ). accepted (i, j)) (ap length (sym sizes-are) ∙ headed f 57 66 h .count) steps-count)
+          probe-good l = rw (head-is, count-is, sizes-are, steps-are, le-leb (length f) end l) (ap₂ (λ (i j : ℕ). accepted (i, j)) (ap length (sym sizes-are) ∙ headed f maxVariables maxValues h .count) steps-count)
 
           -- the offsets that were noted are those of the steps
           pub located : length f ≤ end → (offsets : List ℕ) → Marked f sizes count (at + 2) offsets → Located f offsets
@@ -226,7 +226,7 @@ module _ (f : List ℕ) {n k : ℕ} (h : probeAt f ≡ accepted (n, k)) where
 
   -- what the head says, and where the initial values and the goal stand
   pub record Starts : Type 0 where
-    pub variables : n ≤ 57
+    pub variables : n ≤ maxVariables
     pub fits : 1 + 2 * n ≤ length f
     pub steps : k ≤ maxSteps
     pub init : take n (drop (1 + n) f) ≡ p .init
@@ -236,7 +236,7 @@ module _ (f : List ℕ) {n k : ℕ} (h : probeAt f ≡ accepted (n, k)) where
   unfolding readSteps
   starts =
       let l = probe-lines f (accepted-probe .reads) in
-      let r = head-read f 57 66 (l .head-is) in
+      let r = head-read f maxVariables maxValues (l .head-is) in
       let count : length (l .head .sizes) ≡ n = ap length (l .sizes) ∙ accepted-probe .variables in
       let g = partial-read f (l .head .sizes) (1 + 2 * length (l .head .sizes)) (r .goal) in
       record {

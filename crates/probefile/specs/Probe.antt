@@ -21,7 +21,7 @@ pub record Probe : Type 0 where
   pub goal : Partial
   pub steps : List Step
 
--- the largest counts: variables, values of a variable, steps of a file, entries of a list
+-- the limits: variables, values of a variable, steps of a file, bytes of a file, entries of a list
 abbrev pub maxVariables : ℕ
 maxVariables = 57
 
@@ -30,6 +30,9 @@ maxValues = 66
 
 abbrev pub maxSteps : ℕ
 maxSteps = 576
+
+abbrev pub maxBytes : ℕ
+maxBytes = 76214
 
 abbrev pub maxList : ℕ
 maxList = 6656

@@ -26,7 +26,7 @@ use Rattle.facts.specs.FieldLaws.{taken}
 use Rattle.facts.specs.OperatorLaws.{operator-read}
 use Rattle.facts.specs.HeadLaws.{head-read}
 use Rattle.facts.specs.ReadBack.{operator-reads, Lies, lies-whole, lies-left, lies-right, Reads, field-reads, each-reads, head-reads}
-use Rattle.probefile.specs.Probe.{Step, Probe, maxSteps, perform, stepMove, probeSum, ProbePlan, WfStep, WfProbe}
+use Rattle.probefile.specs.Probe.{Step, Probe, maxSteps, perform, stepMove, probeSum, ProbePlan, WfStep, WfProbe, maxVariables, maxValues}
 use Rattle.probefile.specs.ProbeFile.{readStep, readStepCount, readSteps, readProbe, writeStep, writeProbe}
 
 -- ---- an accepted file
@@ -38,7 +38,7 @@ pub record Lines (f : List ℕ) (p : Probe) : Type 0 where
   pub count : ℕ
   pub at₂ : ℕ
   pub at₃ : ℕ
-  pub head-is : readHead f 57 66 ≡ accepted (head, at₁)
+  pub head-is : readHead f maxVariables maxValues ≡ accepted (head, at₁)
   pub count-is : readStepCount f at₁ ≡ accepted (count, at₂)
   pub steps-are : readSteps f (head .sizes) count at₂ ≡ accepted (p .steps, at₃)
   pub end-is : readEnd f at₃ ≡ accepted tt
@@ -49,7 +49,7 @@ pub record Lines (f : List ℕ) (p : Probe) : Type 0 where
 pub probe-lines : (f : List ℕ) {p : Probe} → readProbe f ≡ accepted p → Lines f p
 unfolding readProbe
 probe-lines f {p} h =
-    let a = through (readHead f 57 66) h in
+    let a = through (readHead f maxVariables maxValues) h in
     let b = through (readStepCount f (a .got .1)) (a .then) in
     let c = through (readSteps f (a .got .0 .sizes) (b .got .0) (b .got .1)) (b .then) in
     let d = through (readEnd f (c .got .1)) (c .then) in
@@ -85,7 +85,7 @@ module _ (f : List ℕ) (bytes : Bytes f) where
   unfolding readSteps
   probe-wf {p} h =
       let l = probe-lines f h in
-      let g = head-read f 57 66 (l .head-is) .wf in
+      let g = head-read f maxVariables maxValues (l .head-is) .wf in
       let z = each-zip (λ (r : ℕ). readStep f (l .head .sizes)) (λ r st. WfStep (l .head .sizes) st) (λ r st at e g. step-wf (l .head .sizes) at g) (upFrom 0 (l .count)) (l .at₂) (l .steps-are) in
       record {
         some-variable = rw (← l .sizes) (g .some-variable);
@@ -116,10 +116,10 @@ module _ (f : List ℕ) where
       let count = bytesOf 2 (length (p .steps)) in
       let steps = writeEach writeStep (p .steps) in
       let l₂ : Lies f (length head) (count ++ steps) = subst (λ (at : ℕ). Lies f at (count ++ steps)) (zero-add (length head)) (lies-right head (count ++ steps) l) in
-      let good : WfHead 57 66 h = record { some-variable = w .some-variable; variables = w .variables; sizes = w .sizes; init = w .init; goal = w .goal } in
+      let good : WfHead maxVariables maxValues h = record { some-variable = w .some-variable; variables = w .variables; sizes = w .sizes; init = w .init; goal = w .goal } in
       let small : length (p .sizes) ≤ 64 = omega (arith, w .variables) in
       let end : leb (length f) (length head + 2 + length steps) ≡ true = le-leb (length f) (length head + 2 + length steps) (omega (arith, length-append head (count ++ steps), length-append count steps)) in
-      onward _ (head-reads f 57 66 h (omega arith) (omega arith) good (lies-left head (count ++ steps) l))
+      onward _ (head-reads f maxVariables maxValues h (omega arith) (omega arith) good (lies-left head (count ++ steps) l))
       (onward _ (count-reads (length (p .steps)) (w .step-count) (length head) (lies-left count steps l₂))
       (onward _ (each-reads f (λ (r : ℕ). readStep f (p .sizes)) writeStep (zip-map (λ r st. Reads f (readStep f (p .sizes)) (writeStep st) st) (λ r st u. step-reads (p .sizes) st small u) (all-zip (WfStep (p .sizes)) 0 (p .steps) (w .steps))) (length head + 2) (lies-right count steps l₂))
       (rw end)))

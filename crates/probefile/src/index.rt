@@ -12,13 +12,14 @@ ghost use lib.ListN.{length};
 ghost use Rattle.facts.specs.Read.{accepted};
 ghost use Rattle.facts.specs.Answers.{fieldAnswer, pastAnswer};
 ghost use Rattle.facts.specs.Fields.{nextOf, valueOf, headAt};
+ghost use Rattle.probefile.specs.Probe.{maxVariables, maxValues, maxSteps};
 ghost use Rattle.probefile.specs.ProbeFile.{readStepCount, readSteps};
 ghost use Rattle.probefile.specs.Answers.{indexedAnswer};
 ghost use Rattle.probefile.specs.InPlace.{probeAt, CountedIn, Marked, Located};
 
 // How many variables and steps a probe file has, and the offset of each step.
 pub fn index(file: &[u8], offsets: &mut [usize]) -> Indexed
-    requires { ⌜ 576 ≤ length (now offsets) ⌝ }
+    requires { ⌜ maxSteps ≤ length (now offsets) ⌝ }
     ensures { λ r. ⌜ (indexedAnswer r ≡ probeAt (now (file .entry))) × Located (now (file .entry)) (now (offsets .exit)) ⌝ }
 {
     match count_steps(file) {
@@ -31,7 +32,7 @@ pub fn index(file: &[u8], offsets: &mut [usize]) -> Indexed
 pub fn count_steps(file: &[u8]) -> Counted
     ensures { λ r. ⌜ CountedIn (now (file .entry)) r ⌝ }
 {
-    match head::read_head(file, Probe::MAX_VARIABLES, Probe::MAX_VALUES) {
+    match head::read_head(file, Probe::MAX_VARIABLES as u64, Probe::MAX_VALUES as u64) {
         Headed::Refused(why) => Counted::Refused(why),
         Headed::Head(variables, at) => match step_count(file, at) {
             Field::Refused(why) => Counted::Refused(why),
@@ -48,7 +49,7 @@ pub fn index_steps(
     steps: usize,
     offsets: &mut [usize],
 ) -> Indexed
-    requires { ⌜ (headAt (now file) 57 66 ≡ accepted (variables, at)) × (valueOf (readStepCount (now file) at) ≡ accepted steps) × (steps ≤ length (now offsets)) ⌝ }
+    requires { ⌜ (headAt (now file) maxVariables maxValues ≡ accepted (variables, at)) × (valueOf (readStepCount (now file) at) ≡ accepted steps) × (steps ≤ length (now offsets)) ⌝ }
     ensures { λ r. ⌜ (indexedAnswer r ≡ probeAt (now (file .entry))) × Located (now (file .entry)) (now (offsets .exit)) ⌝ }
 {
     let sizes_end = 1 + variables;

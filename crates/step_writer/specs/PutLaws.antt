@@ -19,6 +19,7 @@ use Rattle.facts.specs.Fields.{readNumber, wordAt, writeOperator}
 use Rattle.facts.specs.FieldLaws.{number-read}
 use Rattle.taskfile.specs.TaskFile.{edgeBytes}
 use Rattle.taskfile.specs.WalkInPlace.{incomingPlace}
+use Rattle.probefile.specs.Probe.{maxVariables}
 use Rattle.probefile.specs.ProbeFile.{writeStep}
 use Rattle.compilation.specs.Extend.{extend}
 use Rattle.compilation.specs.Compile.{marker, edgeStep}
@@ -48,11 +49,11 @@ extend-two p v w x y =
     rw (m, append-assoc (p .values) (x ∷ []) (y ∷ []))
 
 -- A bit of a probe file's map.
-pub power-small : {v : ℕ} → v < 57 → 2 ^ v ≤ 72057594037927936
+pub power-small : {v : ℕ} → v < maxVariables → 2 ^ v ≤ 72057594037927936
 power-small {v} h = pow-mono {i = v} {j = 56} (omega arith)
 
 -- A map of a task's variables with two bits of a probe file's more has at most 64.
-pub map-fits : (map n bits : ℕ) → map < 2 ^ n → n < 57 → bits < 288230376151711744 → map + bits < 18446744073709551616
+pub map-fits : (map n bits : ℕ) → map < 2 ^ n → n < maxVariables → bits < 288230376151711744 → map + bits < 18446744073709551616
 map-fits map n bits h l b = omega (arith, power-small {v = n} l)
 
 -- A partial state that ends within the file has a value for each standing bit.

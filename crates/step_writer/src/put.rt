@@ -7,6 +7,7 @@ ghost use lib.ListN.{length};
 ghost use Rattle.facts.specs.Bytes.{bytesOf};
 ghost use Rattle.facts.specs.Partial.{writePartial, partialAt, pastPartial, empty};
 ghost use Rattle.facts.specs.Write.{Wrote};
+ghost use Rattle.probefile.specs.Probe.{maxVariables};
 ghost use Rattle.compilation.specs.Extend.{extend};
 ghost use Rattle.step_writer.specs.InPlace.{widened};
 
@@ -53,7 +54,7 @@ pub fn bit(v: usize) -> u64
 
 // The map with the bits of two variables.
 pub fn two_bits(v: usize, w: usize) -> u64
-    requires { ⌜ (v < 57) × (w < 57) ⌝ }
+    requires { ⌜ (v < maxVariables) × (w < maxVariables) ⌝ }
     ensures { λ r. ⌜ (r ≡ 2 ^ v + 2 ^ w) × (r < 288230376151711744) ⌝ }
 {
     bit(v) + bit(w)
@@ -85,7 +86,7 @@ pub fn put_extended(
 
 // The facts of two variables, the lower one's first.
 pub fn put_two(v: usize, x: u8, w: usize, y: u8, out: &mut [u8]) -> usize
-    requires { ⌜ (v < 57) × (w < 57) × (10 ≤ length (now out)) ⌝ }
+    requires { ⌜ (v < maxVariables) × (w < maxVariables) × (10 ≤ length (now out)) ⌝ }
     ensures { λ r. ⌜ Wrote (writePartial (extend (extend empty v x) w y)) (now (out .entry)) (now (out .exit)) r ⌝ }
 {
     let lower = [x];
@@ -95,7 +96,7 @@ pub fn put_two(v: usize, x: u8, w: usize, y: u8, out: &mut [u8]) -> usize
 
 // The fact of one variable.
 pub fn put_one(v: usize, x: u8, out: &mut [u8]) -> usize
-    requires { ⌜ (v < 57) × (9 ≤ length (now out)) ⌝ }
+    requires { ⌜ (v < maxVariables) × (9 ≤ length (now out)) ⌝ }
     ensures { λ r. ⌜ Wrote (writePartial (extend empty v x)) (now (out .entry)) (now (out .exit)) r ⌝ }
 {
     let none: [u8; 0] = [];

@@ -6,11 +6,14 @@ use crate::put::put_word;
 use crate::put::two_bits;
 use facts::number::byte_at;
 use facts::number::word_at;
+use taskfile::Task;
 ghost use mathlib.Core.Path.{_≡_};
 ghost use Prim.Native.Nat.{_+_, _≤_, _<_};
 ghost use lib.ListN.{length};
 ghost use Rattle.facts.specs.Partial.{partialAt, writePartial, pastPartial};
 ghost use Rattle.facts.specs.Write.{Wrote};
+ghost use Rattle.taskfile.specs.Task.{maxNodes};
+ghost use Rattle.probefile.specs.Probe.{maxVariables};
 ghost use Rattle.taskfile.specs.TaskFile.{edgeBytes};
 ghost use Rattle.taskfile.specs.WalkInPlace.{incomingPlace};
 ghost use Rattle.probefile.specs.ProbeFile.{writeStep};
@@ -19,12 +22,9 @@ ghost use Rattle.compilation.specs.Compile.{edgeStep};
 ghost use Rattle.taskfile.specs.PartsInPlace.{edgeIn, Stands};
 ghost use Rattle.step_writer.specs.InPlace.{startIn, endIn};
 
-// The bytes of an edge, target and weight.
-pub const EDGE_BYTES: usize = 3;
-
 // The partial state at an offset, which ends at `end`, with semaphore and marker of action a at 0.
 pub fn put_cleared(file: &[u8], at: usize, end: usize, n: usize, a: usize, out: &mut [u8]) -> usize
-    requires { ⌜ Stands (now file) n at × (end ≡ pastPartial (now file) at) × (n + (1 + a) < 57) ⌝ }
+    requires { ⌜ Stands (now file) n at × (end ≡ pastPartial (now file) at) × (n + (1 + a) < maxVariables) ⌝ }
     requires { ⌜ length (writePartial (extend (extend (partialAt (now file) at) n 0) (n + (1 + a)) 0)) ≤ length (now out) ⌝ }
     ensures { λ r. ⌜ Wrote (writePartial (extend (extend (partialAt (now (file .entry)) at) n 0) (n + (1 + a)) 0)) (now (out .entry)) (now (out .exit)) r ⌝ }
 {
@@ -42,7 +42,7 @@ pub fn put_start(
     a: usize,
     out: &mut [u8],
 ) -> usize
-    requires { ⌜ Stands (now file) n at × (effect ≡ pastPartial (now file) at) × (incoming ≡ incomingPlace (now file) at) × (n + (1 + a) < 57) ⌝ }
+    requires { ⌜ Stands (now file) n at × (effect ≡ pastPartial (now file) at) × (incoming ≡ incomingPlace (now file) at) × (n + (1 + a) < maxVariables) ⌝ }
     requires { ⌜ length (writeStep (startIn (now file) n a at)) ≤ length (now out) ⌝ }
     ensures { λ r. ⌜ Wrote (writeStep (startIn (now (file .entry)) n a at)) (now (out .entry)) (now (out .exit)) r ⌝ }
 {
@@ -63,11 +63,11 @@ pub fn put_edge(
     d: u8,
     out: &mut [u8],
 ) -> usize
-    requires { ⌜ (v < 57) × (n + (1 + a) < 57) × (at + edgeBytes ≤ length (now file)) ⌝ }
+    requires { ⌜ (v < maxVariables) × (n + (1 + a) < maxVariables) × (at + edgeBytes ≤ length (now file)) ⌝ }
     requires { ⌜ 21 ≤ length (now out) ⌝ }
     ensures { λ r. ⌜ Wrote (writeStep (edgeStep n a i v d (edgeIn (now (file .entry)) at))) (now (out .entry)) (now (out .exit)) r ⌝ }
 {
-    let end = at + EDGE_BYTES;
+    let end = at + Task::EDGE_BYTES;
     let edge = &file[at..end];
     let target = byte_at(edge, 0);
     let weight = word_at(edge, 1);
@@ -86,7 +86,7 @@ pub fn put_end(
     a: usize,
     out: &mut [u8],
 ) -> usize
-    requires { ⌜ Stands (now file) n effect × (end ≡ pastPartial (now file) effect) × (n + (1 + a) < 57) × (count ≤ 64) ⌝ }
+    requires { ⌜ Stands (now file) n effect × (end ≡ pastPartial (now file) effect) × (n + (1 + a) < maxVariables) × (count ≤ maxNodes) ⌝ }
     requires { ⌜ length (writeStep (endIn (now file) n a effect count)) ≤ length (now out) ⌝ }
     ensures { λ r. ⌜ Wrote (writeStep (endIn (now (file .entry)) n a effect count)) (now (out .entry)) (now (out .exit)) r ⌝ }
 {

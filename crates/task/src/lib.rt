@@ -85,7 +85,7 @@ fn run_in(file: &[u8], variables: usize, actions: usize, row: &[usize], list: &[
 {
     let init = 1 + variables;
     let goal = init + variables;
-    let mut state = [0; 24];
+    let mut state = [0; Task::MAX_VARIABLES];
     bytes::copy(&file[init..goal], &mut state[..variables]);
     match run_list(file, goal, actions, row, list, &mut state[..variables]) {
         Tallied::Refused(why) => Ran::Refused(why),

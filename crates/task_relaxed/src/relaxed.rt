@@ -5,6 +5,7 @@ use facts::number::byte_at;
 use facts::number::offset_at;
 use partial::stray;
 use taskfile::Costed;
+use taskfile::Task;
 use walk::diagram_at;
 use walk::edge_for;
 use walk::own_nodes;
@@ -78,7 +79,7 @@ fn relaxed_at(file: &[u8], sizes: &[u8], at: usize, nodes: &[usize], sets: &[u8]
     ensures { λ r. ⌜ r ≡ relaxedByPass (actionIn (now (file .entry)) (now (sizes .entry)) at (now (nodes .entry))) (now (sets .entry)) ⌝ }
 {
     let diagram = diagram_at(file, at);
-    let mut least: [u32; 66] = [0; taskfile::NUMBERS];
+    let mut least: [u32; Task::NUMBERS] = [0; Task::NUMBERS];
     let mut k = diagram.count;
     while 0 < k {
         let from = least_at(file, sizes, offset_at(nodes, k - 1), sets, &least);

@@ -15,7 +15,7 @@ use Rattle.facts.specs.StateLaws.{state-inside}
 use Rattle.facts.specs.Run.{atMost}
 use Rattle.facts.specs.PartialReadLaws.{partial-read}
 use Rattle.facts.specs.HeadLaws.{head-read}
-use Rattle.taskfile.specs.Task.{Action, Task, Walk, maxList, cost}
+use Rattle.taskfile.specs.Task.{Action, Task, Walk, maxList, cost, maxVariables, maxActions, maxValues}
 use Rattle.taskfile.specs.TaskFile.{readTask, checkTask, actionOf, askTask, runTask}
 use Rattle.taskfile.specs.TaskReadLaws.{task-read, task-limits}
 use Rattle.taskfile.specs.WalkInPlace.{walkAt, moveAt, runList}
@@ -59,8 +59,8 @@ module _ (f : List ℕ) {n count : ℕ} {row : List ℕ} (ready : Ready f n coun
 
   -- what the file's head says, and where its initial values and its goal stand
   pub record Starts : Type 0 where
-    pub variables : n ≤ 24
-    pub actions : count ≤ 32
+    pub variables : n ≤ maxVariables
+    pub actions : count ≤ maxActions
     pub fits : 1 + 2 * n ≤ length f
     pub sizes : take (n) (drop 1 f) ≡ t .sizes
     pub init : take (n) (drop (1 + n) f) ≡ t .init
@@ -69,7 +69,7 @@ module _ (f : List ℕ) {n count : ℕ} {row : List ℕ} (ready : Ready f n coun
   pub starts : Starts
   starts =
       let l = task-read f (there .reads) in
-      let r = head-read f 24 8 (l .head-is) in
+      let r = head-read f maxVariables maxValues (l .head-is) in
       let g = partial-read f (t .sizes) (1 + 2 * length (t .sizes)) (r .goal) in
       let n = there .variables in
       record {

@@ -14,7 +14,7 @@ use Rattle.facts.specs.Fields.{wordAt}
 use Rattle.facts.specs.InPlaceLaws.{word-is}
 use Rattle.facts.specs.PartialReadLaws.{Partial-read, partial-read}
 use Rattle.facts.specs.HeadLaws.{head-read}
-use Rattle.taskfile.specs.Task.{Edge, Node, Action, Task, maxNodes}
+use Rattle.taskfile.specs.Task.{Edge, Node, Action, Task, maxNodes, maxVariables, maxValues}
 use Rattle.taskfile.specs.TaskFile.{edgeBytes, readTask}
 use Rattle.taskfile.specs.Row.{ownFrom}
 use Rattle.taskfile.specs.InPlace.{Lies}
@@ -155,5 +155,5 @@ module _ (f : List ℕ) {n k : ℕ} {row : List ℕ} (ready : Ready f n k row) w
   -- The goal stands in the file.
   pub goal-stands : Stands f (n) (1 + 2 * n)
   goal-stands =
-      let g = head-read f 24 8 (task-read f reads .head-is) .goal in
+      let g = head-read f maxVariables maxValues (task-read f reads .head-is) .goal in
       subst (λ (n : ℕ). Stands f n (1 + 2 * n)) (task-there f ready .variables) (stands (partial-read f (t .sizes) (1 + 2 * length (t .sizes)) g))

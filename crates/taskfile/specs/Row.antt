@@ -2,23 +2,23 @@
 use Prim.Native.Nat.{ℕ, _+_}
 use mathlib.Core.List.{List}
 use lib.ListN.{getD}
-use Rattle.taskfile.specs.Task.{maxNodes}
+use Rattle.taskfile.specs.Task.{maxActions, maxNodes}
 
 -- The row of an index: the offset of each action, and from these entries on where its effect and its incoming weight stand, which of all nodes is its first, where each node starts and which variable it tests; and how long the row is.
 abbrev pub effectsFrom : ℕ
-effectsFrom = 32
+effectsFrom = maxActions
 
 abbrev pub incomingFrom : ℕ
-incomingFrom = 64
+incomingFrom = effectsFrom + maxActions
 
 abbrev pub firstsFrom : ℕ
-firstsFrom = 96
+firstsFrom = incomingFrom + maxActions
 
 abbrev pub nodesFrom : ℕ
-nodesFrom = 128
+nodesFrom = firstsFrom + maxActions
 
 abbrev pub testedFrom : ℕ
-testedFrom = 192
+testedFrom = nodesFrom + maxNodes
 
 abbrev pub rowLong : ℕ
 rowLong = testedFrom + maxNodes

@@ -60,6 +60,22 @@ maxNodes = 64
 abbrev pub maxBytes : ℕ
 maxBytes = 3826
 
+-- bytes of the probe file written from a task
+abbrev pub maxWritten : ℕ
+maxWritten = 13846
+
+-- semaphore and markers of the written file
+abbrev pub maxMarkers : ℕ
+maxMarkers = 1 + maxActions
+
+-- entries of one action in a probe list: its start, an edge for each variable, its end
+abbrev pub maxEntries : ℕ
+maxEntries = maxVariables + 2
+
+-- entries of a table by number: one for each node and for the terminal, and one at 0
+abbrev pub maxNumbers : ℕ
+maxNumbers = maxNodes + 2
+
 -- entries of a list
 abbrev pub maxList : ℕ
 maxList = 256

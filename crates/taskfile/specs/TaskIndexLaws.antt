@@ -10,7 +10,7 @@ use Rattle.facts.specs.ReadLaws.{not-refused, made, not-made, value-of, next-of
 use Rattle.facts.specs.Fields.{nextOf, valueOf, Head, readCount, readHead, headAt, readEnd}
 use Rattle.facts.specs.FieldLaws.{count-read}
 use Rattle.facts.specs.HeadLaws.{headed, headed-sizes, no-head}
-use Rattle.taskfile.specs.Task.{Action, Task, maxNodes}
+use Rattle.taskfile.specs.Task.{Action, Task, maxNodes, maxVariables, maxValues, maxActions}
 use Rattle.taskfile.specs.TaskFile.{readActions, readTask, checkTask}
 use Rattle.taskfile.specs.TaskReadLaws.{task-read}
 use Rattle.taskfile.specs.Row.{rowLong, ownFrom}
@@ -65,29 +65,29 @@ module _ (f : List ℕ) where
 
   -- ---- the ways in which a file can go
 
-  pub task-no-head : {n p : ℕ} → headAt f 24 8 ≡ refused n p → taskAt f ≡ refused n p
+  pub task-no-head : {n p : ℕ} → headAt f maxVariables maxValues ≡ refused n p → taskAt f ≡ refused n p
   unfolding taskAt readTask
-  task-no-head h = rw (no-head f 24 8 h)
+  task-no-head h = rw (no-head f maxVariables maxValues h)
 
-  module _ {n at : ℕ} (h : headAt f 24 8 ≡ accepted (n, at)) where
+  module _ {n at : ℕ} (h : headAt f maxVariables maxValues ≡ accepted (n, at)) where
     abbrev head : Head
-    head = headed f 24 8 h .head
+    head = headed f maxVariables maxValues h .head
 
-    abbrev head-is : readHead f 24 8 ≡ accepted (head, at)
-    head-is = headed f 24 8 h .is
+    abbrev head-is : readHead f maxVariables maxValues ≡ accepted (head, at)
+    head-is = headed f maxVariables maxValues h .is
 
-    pub task-no-count : {k p : ℕ} → valueOf (readCount f 1 32 at) ≡ refused k p → taskAt f ≡ refused k p
+    pub task-no-count : {k p : ℕ} → valueOf (readCount f 1 maxActions at) ≡ refused k p → taskAt f ≡ refused k p
     unfolding taskAt readTask
-    task-no-count g = rw (head-is, not-made (λ (p : ℕ × ℕ). p .0) (readCount f 1 32 at) g)
+    task-no-count g = rw (head-is, not-made (λ (p : ℕ × ℕ). p .0) (readCount f 1 maxActions at) g)
 
-    module _ {count : ℕ} (g : valueOf (readCount f 1 32 at) ≡ accepted count) where
-      count-is : readCount f 1 32 at ≡ accepted (count, at + 1)
+    module _ {count : ℕ} (g : valueOf (readCount f 1 maxActions at) ≡ accepted count) where
+      count-is : readCount f 1 maxActions at ≡ accepted (count, at + 1)
       count-is =
-          let m = made (λ (p : ℕ × ℕ). p .0) (readCount f 1 32 at) g in
-          m .answer ∙ ap₂ (λ (c e : ℕ). accepted (c, e)) (m .value) (count-read f 1 32 at (m .answer) .next)
+          let m = made (λ (p : ℕ × ℕ). p .0) (readCount f 1 maxActions at) g in
+          m .answer ∙ ap₂ (λ (c e : ℕ). accepted (c, e)) (m .value) (count-read f 1 maxActions at (m .answer) .next)
 
-      pub count-fits : (count ≤ 32) × (at + 1 ≤ length f)
-      count-fits = let m = count-read f 1 32 at count-is in (m .most, m .fits)
+      pub count-fits : (count ≤ maxActions) × (at + 1 ≤ length f)
+      count-fits = let m = count-read f 1 maxActions at count-is in (m .most, m .fits)
 
       module _ {k : ℕ} (same : k ≡ n) where
         -- the domain sizes as they stand
@@ -95,7 +95,7 @@ module _ (f : List ℕ) where
         sizes = take k (drop 1 f)
 
         sizes-are : head .sizes ≡ sizes
-        sizes-are = headed-sizes f 24 8 h same
+        sizes-are = headed-sizes f maxVariables maxValues h same
 
         pub task-no-actions : {m p : ℕ} → nextOf (readActions f sizes count maxNodes (at + 1)) ≡ refused m p → taskAt f ≡ refused m p
         unfolding taskAt readTask
@@ -116,7 +116,7 @@ module _ (f : List ℕ) where
           unfolding taskAt readTask readEnd
           task-good l =
               rw (head-is, count-is, sizes-are, actions-are, le-leb (length f) end l)
-              (ap₂ (λ (i j : ℕ). accepted (i, j)) (ap length (sym sizes-are) ∙ headed f 24 8 h .count) (actions-count f sizes count maxNodes (at + 1) actions-are))
+              (ap₂ (λ (i j : ℕ). accepted (i, j)) (ap length (sym sizes-are) ∙ headed f maxVariables maxValues h .count) (actions-count f sizes count maxNodes (at + 1) actions-are))
 
         -- the actions from this offset on are those of the task that is read, with its domain sizes
         read-again : (t : Task) → readTask f ≡ accepted t → (end : ℕ) × (readActions f sizes count maxNodes (at + 1) ≡ accepted (t .actions, end)) × (t .sizes ≡ sizes)
@@ -124,7 +124,7 @@ module _ (f : List ℕ) where
             let l = task-read f r in
             let head-same = value-of (sym (l .head-is) ∙ head-is) in
             let at-same : l .at ≡ at = next-of (sym (l .head-is) ∙ head-is) in
-            let c : readCount f 1 32 at ≡ accepted (length (t .actions), l .at + 1) = ap (readCount f 1 32) (sym at-same) ∙ l .count-is in
+            let c : readCount f 1 maxActions at ≡ accepted (length (t .actions), l .at + 1) = ap (readCount f 1 maxActions) (sym at-same) ∙ l .count-is in
             let count-same : length (t .actions) ≡ count = value-of (sym c ∙ count-is) in
             let sizes-same : t .sizes ≡ sizes = ap (λ (h : Head). h .sizes) head-same ∙ sizes-are in (
               l .end,

@@ -31,10 +31,6 @@ pub struct Edge {
     pub weight: u32,
 }
 
-impl Edge {
-    pub const BYTES: usize = 3;
-}
-
 // What stands before the nodes of a diagram: the weight of the edge into node 1, and the number of nodes.
 pub struct Diagram {
     pub incoming: u32,
@@ -152,7 +148,7 @@ pub fn edge_for(file: &[u8], node: usize, value: u8) -> Edge
             weight: 0,
         };
     }
-    let at = node + (1 + Edge::BYTES * (value as usize));
+    let at = node + (1 + Task::EDGE_BYTES * (value as usize));
     Edge {
         target: byte_at(file, at) as usize,
         weight: word_at(file, at + 1),

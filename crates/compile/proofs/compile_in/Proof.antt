@@ -6,6 +6,7 @@ use denote.Ref.{now}
 use lib.ListN.{length, getD, take, drop}
 use borrow.Rule.Slice.PartMut.{putMid}
 use Rattle.facts.specs.Write.{Wrote}
+use Rattle.taskfile.specs.Task.{maxVariables, maxActions}
 use Rattle.taskfile.specs.Row.{ownFrom}
 use Rattle.taskfile.specs.InPlace.{Fronts}
 use Rattle.taskfile.specs.PartsInPlace.{Stood}
@@ -38,7 +39,7 @@ sizes-are : (c : tie.Start) → take (1 + c .args .variables - 1) (drop 1 (now (
 sizes-are c = let same : 1 + c .args .variables - 1 ≡ c .args .variables = omega arith in ap (λ (k : ℕ). take k (drop 1 (now (c .args .file)))) same ∙ begins c .sizes
 
 -- the limits, and where effects and incoming weights stand
-limits : (c : tie.Start) → let x = c .args in (length (take (1 + x .variables - 1) (drop 1 (now (x .file)))) ≤ 24) × (x .actions ≤ 32) × (x .actions ≤ length (now (x .row))) × Fronts (now (x .file)) (x .actions) (now (x .row))
+limits : (c : tie.Start) → let x = c .args in (length (take (1 + x .variables - 1) (drop 1 (now (x .file)))) ≤ maxVariables) × (x .actions ≤ maxActions) × (x .actions ≤ length (now (x .row))) × Fronts (now (x .file)) (x .actions) (now (x .row))
 limits c = (omega (arith, ap length (sizes-are c), task c .variables, begins c .variables), begins c .actions, omega (arith, begins c .actions, c .pre .long), c .pre .fronts)
 
 -- where each action stands

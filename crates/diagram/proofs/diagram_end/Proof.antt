@@ -8,6 +8,7 @@ use Rattle.facts.specs.Read.{accepted}
 use Rattle.facts.specs.ReadLaws.{not-refused}
 use Rattle.facts.specs.Answers.{fieldAnswer, pastAnswer, checkedAnswer}
 use Rattle.facts.specs.Fields.{nextOf, valueOf, readCount}
+use Rattle.taskfile.specs.Task.{maxNodes}
 use Rattle.taskfile.specs.TaskFile.{readNodes}
 use Rattle.taskfile.specs.Row.{nodesFrom}
 use Rattle.taskfile.specs.InPlaceLaws.{all-terminal, back, marked-part, length-part, levels-part, drawn-no-count, drawn-no-nodes, drawn-falls, drawn-good, count-fits, count-most, all-inside, placed}
@@ -17,7 +18,7 @@ use native.Mathlib.Omega.{arith}
 use Rattle.diagram.proofs.diagram_end.Statement.{statement}
 use Rattle.diagram.proofs.diagram_end.Tie as tie
 
-count-is : (c : tie.After-count) → let a = c .before .before .before .before .before .before .args in valueOf (readCount (now (a .file)) 0 (64 - a .used) (a .at)) ≡ accepted (c .count .given .0 .0)
+count-is : (c : tie.After-count) → let a = c .before .before .before .before .before .before .args in valueOf (readCount (now (a .file)) 0 (maxNodes - a .used) (a .at)) ≡ accepted (c .count .given .0 .0)
 count-is c = sym (c .before .before .read-count .ensures) ∙ ap fieldAnswer (c .count .given .1)
 
 nodes-are : (c : tie.After-end) → let a = c .before .before .before .before .before .before .before .before .before .before .before .before .before .before .before .args in nextOf (readNodes (now (a .file)) (now (a .sizes)) (c .before .before .before .before .before .before .before .before .before .count .given .0 .0) (a .at + 1)) ≡ accepted (c .end .given .0 .0)

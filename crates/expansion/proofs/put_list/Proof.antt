@@ -14,7 +14,7 @@ use Rattle.facts.specs.Run.{next as went}
 use Rattle.facts.specs.Write.{Wrote}
 use Rattle.facts.specs.declared.Applied.{Applied}
 use Rattle.facts.specs.Answers.{appliedMove, CostMost}
-use Rattle.taskfile.specs.Task.{Action}
+use Rattle.taskfile.specs.Task.{Action, maxEntries, maxList}
 use Rattle.taskfile.specs.Row.{firstsFrom, ownFrom}
 use Rattle.taskfile.specs.WalkInPlace.{moveAt, performAt, maxWalk}
 use Rattle.taskfile.specs.MoveInPlaceLaws.{own-nodes, moves, Running, run-starts, running-missing, running-blocked, running-next, running-met, running-unmet}
@@ -44,7 +44,7 @@ fits : (c : tie.Start Inv-loop μ-loop) → length (expandFrom (actions c) (now 
 fits c = list-room (c .pre .0 .0) (now (c .args .list)) (now (c .args .state)) (c .pre .0 .1) (c .pre .1 .1)
 
 -- they are not many
-few : (c : tie.Start Inv-loop μ-loop) → length (expandFrom (actions c) (now (c .args .list)) (now (c .args .state))) ≤ 6656
+few : (c : tie.Start Inv-loop μ-loop) → length (expandFrom (actions c) (now (c .args .list)) (now (c .args .state))) ≤ maxEntries * maxList
 few c = list-room (c .pre .0 .0) (now (c .args .list)) (now (c .args .state)) (c .pre .0 .1) (omega (arith, c .pre .1 .0))
 
 -- a state inside the domains is as long as the first one

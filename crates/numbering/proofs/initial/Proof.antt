@@ -10,6 +10,7 @@ use Rattle.facts.specs.WriteLaws.{copied}
 use borrow.Author.Needs.{needs}
 use Rattle.numbering.proofs.initial.Statement.{statement}
 use Rattle.numbering.proofs.initial.Tie as tie
+use Rattle.taskfile.specs.Task.{maxVariables}
 
 -- the initial values as they stand, one for each variable
 abbrev values : tie.Start → List ℕ
@@ -20,7 +21,7 @@ values-long c = simp (length-take, length-drop) (omega (arith, c .pre .1))
 
 -- a state of zeros, and its front
 abbrev zeros : List ℕ
-zeros = replicate 24 0
+zeros = replicate maxVariables 0
 
 front-long : (c : tie.Start) → length (take (c .args .variables) zeros) ≡ c .args .variables
 front-long c = length-take-le (c .args .variables) zeros (c .pre .0)

@@ -9,6 +9,7 @@ use Rattle.numbering.specs.NoteLaws.{note-turn, note-last}
 use borrow.Author.Needs.{needs}
 use Rattle.numbering.proofs.note_actions.Statement.{statement}
 use Rattle.numbering.proofs.note_actions.Tie as tie
+use Rattle.probefile.specs.Probe.{maxSteps}
 
 abbrev Inv-loop : tie.InvT-loop
 Inv-loop first-step action-of₀ a₀ action-of a = (a ≤ length first-step) × (length action-of ≡ length action-of₀) × (noteFrom a (drop a first-step) action-of ≡ noteFrom 0 first-step action-of₀)
@@ -17,7 +18,7 @@ abbrev μ-loop : tie.MeasureT-loop
 μ-loop first-step action-of₀ a₀ action-of a = length first-step - a
 
 -- the start is one of the 576 numbers
-below : (c : tie.In-loop Inv-loop μ-loop) → getD (now (c .before .before .args .first-step)) (c .before .loop .a) 0 < 576
+below : (c : tie.In-loop Inv-loop μ-loop) → getD (now (c .before .before .args .first-step)) (c .before .loop .a) 0 < maxSteps
 below c = c .before .before .pre .2 (c .before .loop .a) (c .loop-test .taken)
 
 loop-again : tie.Need-loop-again Inv-loop μ-loop

@@ -12,6 +12,7 @@ use Rattle.numbering.specs.NumberLaws.{Edging, edging-start, edging-smal
 use borrow.Author.Needs.{needs}
 use Rattle.numbering.proofs.number_edges.Statement.{statement}
 use Rattle.numbering.proofs.number_edges.Tie as tie
+use Rattle.probefile.specs.Probe.{maxSteps}
 
 abbrev Inv-loop : tie.InvT-loop
 Inv-loop file sizes nodes count from first-edge₀ next₀ j₀ first-edge next j = Edging (nodesIn file sizes nodes 0 count) from first-edge₀ first-edge next j
@@ -38,7 +39,7 @@ loop-again : tie.Need-loop-again Inv-loop μ-loop
 loop-again c = edging-next (c .before .before .before .loop .inv) (node (c .before .before)) (long (c .before .before .before .before .before .before .before .before)) (edges c)
 
 -- the number after this node's edges
-small : (c : tie.After-byte-at Inv-loop μ-loop) → c .before .before .before .loop .next + c .byte-at .result ≤ 576
+small : (c : tie.After-byte-at Inv-loop μ-loop) → c .before .before .before .loop .next + c .byte-at .result ≤ maxSteps
 small c = omega (arith, c .before .before .before .before .before .before .before .before .pre .1, edging-small (c .before .before .before .loop .inv) (node (c .before .before)), edges c)
 
 pub number-edges-spec : {M : Type 1} → statement M

@@ -4,6 +4,7 @@ use mathlib.Core.Path.{_≡_, refl, sym, _∙_}
 use lib.ListN.{length, length-set}
 use native.Mathlib.Omega.{arith}
 use denote.Ref.{now}
+use Rattle.taskfile.specs.Task.{maxNumbers}
 use Rattle.taskfile.specs.PartsInPlace.{nodesIn}
 use Rattle.estimate.specs.Number.{ranked}
 use Rattle.estimate.specs.Ranks.{rankNumber}
@@ -17,13 +18,13 @@ use Rattle.price.proofs.least_from.Statement.{statement}
 use Rattle.price.proofs.least_from.Tie as tie
 
 abbrev Inv-loop : tie.InvT-loop
-Inv-loop file sizes count nodes ranks least₀ k₀ least k = (k ≤ count) × (length least ≡ 66) × Filled (numberPass sizes (rankNumber ranks)) ranked (nodesIn file sizes nodes 0 count) k least × Apart least
+Inv-loop file sizes count nodes ranks least₀ k₀ least k = (k ≤ count) × (length least ≡ maxNumbers) × Filled (numberPass sizes (rankNumber ranks)) ranked (nodesIn file sizes nodes 0 count) k least × Apart least
 
 abbrev μ-loop : tie.MeasureT-loop
 μ-loop file sizes count nodes ranks least₀ k₀ least k = k
 
 returns : tie.Need-returns Inv-loop μ-loop
-returns c = let s = c .before .before .before .before .before in ranked-end (s .pre) (rankNumber (now (s .args .ranks))) {k = 0} (omega arith) (ranked-start (s .pre) (rankNumber (now (s .args .ranks))) 66 (sym (c .if1 .taken)))
+returns c = let s = c .before .before .before .before .before in ranked-end (s .pre) (rankNumber (now (s .args .ranks))) {k = 0} (omega arith) (ranked-start (s .pre) (rankNumber (now (s .args .ranks))) maxNumbers (sym (c .if1 .taken)))
 
 loop-again : tie.Need-loop-again Inv-loop μ-loop
 loop-again c =
@@ -44,7 +45,7 @@ least-from-spec =
     Inv-loop
     μ-loop
     returns
-    (λ c. (omega arith, refl, ranked-start (c .before .before .before .before .before .pre) (rankNumber (now (c .before .before .before .before .before .args .ranks))) 66 refl, apart-start 66))
+    (λ c. (omega arith, refl, ranked-start (c .before .before .before .before .before .pre) (rankNumber (now (c .before .before .before .before .before .args .ranks))) maxNumbers refl, apart-start maxNumbers))
     (λ c. omega (arith, c .loop-test .taken))
     (λ c κs. search needs)
     (λ c. search needs)

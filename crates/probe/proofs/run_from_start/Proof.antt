@@ -7,6 +7,7 @@ use lib.ListN.{length, take, drop, replicate, length-take, length-drop, length-a
 use lib.Seq.{length-take-le, take-at}
 use Rattle.facts.specs.Partial.{partialAt}
 use Rattle.facts.specs.Run.{runFrom}
+use Rattle.probefile.specs.Probe.{maxVariables}
 use Rattle.probefile.specs.InPlace.{moveAt}
 use Rattle.facts.specs.WriteLaws.{copied}
 use borrow.Author.Needs.{needs}
@@ -26,7 +27,7 @@ init-is c = let n : 1 + c .args .variables + c .args .variables - (1 + c .args .
 
 -- a state of zeros
 abbrev zeros : List ℕ
-zeros = replicate 57 0
+zeros = replicate maxVariables 0
 
 same : (c : tie.After-copy) → c .copy .last .1 .0 ≡ init (c .before .before .before .before .before .before)
 same c = copied (init (c .before .before .before .before .before .before)) (take (c .before .before .before .before .before .before .args .variables) zeros) (init-long (c .before .before .before .before .before .before) ∙ sym (length-take-le (c .before .before .before .before .before .before .args .variables) zeros (c .before .before .before .before .before .before .pre .1))) (c .copy .ensures .1)

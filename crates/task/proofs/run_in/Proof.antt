@@ -7,6 +7,7 @@ use lib.ListN.{length, take, drop, replicate, length-take, length-drop, length-a
 use lib.Seq.{length-take-le, take-at}
 use Rattle.facts.specs.WriteLaws.{copied}
 use Rattle.facts.specs.Partial.{partialAt}
+use Rattle.taskfile.specs.Task.{maxVariables}
 use Rattle.taskfile.specs.TaskFile.{runTask}
 use Rattle.taskfile.specs.WalkInPlace.{moveAt, runList}
 use Rattle.taskfile.specs.Answers.{sumAnswer}
@@ -34,7 +35,7 @@ init-is c =
 
 -- a state of zeros
 abbrev zeros : List ℕ
-zeros = replicate 24 0
+zeros = replicate maxVariables 0
 
 same : (c : tie.After-copy) → c .copy .last .1 .0 ≡ init (c .before .before .before .before .before .before)
 same c = let s = c .before .before .before .before .before .before in copied (init s) (take (s .args .variables) zeros) (init-long s ∙ sym (length-take-le (s .args .variables) zeros (begins s .variables))) (c .copy .ensures .1)

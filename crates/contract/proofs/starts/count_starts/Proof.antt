@@ -9,9 +9,10 @@ use Rattle.contract.specs.ContractLaws.{count-on, count-one, count-over,
 use borrow.Author.Needs.{needs}
 use Rattle.contract.proofs.starts.count_starts.Statement.{statement}
 use Rattle.contract.proofs.starts.count_starts.Tie as tie
+use Rattle.taskfile.specs.Task.{maxList}
 
 abbrev Inv-loop : tie.InvT-loop
-Inv-loop action-of list count₀ i₀ count i = (i ≤ length list) × (count ≤ 256) × (countIn action-of count i (drop i list) ≡ countIn action-of 0 0 list)
+Inv-loop action-of list count₀ i₀ count i = (i ≤ length list) × (count ≤ maxList) × (countIn action-of count i (drop i list) ≡ countIn action-of 0 0 list)
 
 abbrev μ-loop : tie.MeasureT-loop
 μ-loop action-of list count₀ i₀ count i = length list - i

@@ -12,6 +12,7 @@ use Rattle.contract.specs.ContractLaws.{turn-other, turn-start, turn-non
 use borrow.Author.Needs.{needs}
 use Rattle.contract.proofs.starts.put_starts.Statement.{statement}
 use Rattle.contract.proofs.starts.put_starts.Tie as tie
+use Rattle.taskfile.specs.Task.{maxActions}
 
 abbrev Inv-loop : tie.InvT-loop
 Inv-loop action-of list out₀ written₀ i₀ out written i = (i ≤ length list) × Going (contractIn action-of list) (contractIn action-of (drop i list)) out₀ out written
@@ -33,7 +34,7 @@ next c =
     let a = c .before .before .before .before .before .before .before .before .args in
     turn-start (now (a .action-of)) (now (a .list)) (c .before .before .before .before .loop .i) (c .before .before .before .loop-test .taken) (c .before .byte-at .ensures) (c .if1 .left)
 
-small : (c : tie.Else1 Inv-loop μ-loop) → c .before .byte-at .result ≤ 32
+small : (c : tie.Else1 Inv-loop μ-loop) → c .before .byte-at .result ≤ maxActions
 small c =
     let s = c .before .before .before .before .before .before .before .before in
     omega (arith, c .before .byte-at .ensures, s .pre .0 (getD (now (s .args .list)) (c .before .before .before .before .loop .i) 0))

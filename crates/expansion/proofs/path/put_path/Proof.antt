@@ -9,6 +9,7 @@ use Rattle.numbering.specs.ActionLaws.{Visited, visited, edge-paid, Passing, st
 use borrow.Author.Needs.{needs}
 use Rattle.expansion.proofs.path.put_path.Statement.{statement}
 use Rattle.expansion.proofs.path.put_path.Tie as tie
+use Rattle.probefile.specs.Probe.{maxSteps}
 
 abbrev Inv-loop : tie.InvT-loop
 Inv-loop file sizes nodes count first-edge first next state out₀ written₀ cost₀ k₀ out written cost k = Passing file sizes nodes count state first out₀ out written cost k
@@ -35,7 +36,7 @@ there c =
     visited (now (a .file)) (now (a .sizes)) (now (a .nodes)) (a .count) (s .pre .1) (s .pre .2) (c .before .before .before .before .before .loop .inv .low) (c .before .before .before .before .loop-test .taken) (c .before .before .before .offset-at .ensures) (c .before .before .offset-at2 .ensures) (c .before .byte-at .ensures) refl
 
 -- its edge has a number below that of the end, and there is room for it
-small : (c : tie.After-offset-at3 Inv-loop μ-loop) → c .offset-at3 .result + c .before .byte-at .result < 576
+small : (c : tie.After-offset-at3 Inv-loop μ-loop) → c .offset-at3 .result + c .before .byte-at .result < maxSteps
 small c =
     let s = c .before .before .before .before .before .before .before .before .before .before .before .before in
     let a = s .args in

@@ -8,6 +8,7 @@ use Rattle.facts.specs.Read.{accepted}
 use Rattle.facts.specs.Answers.{fieldAnswer, pastAnswer}
 use Rattle.facts.specs.Fields.{nextOf, valueOf, readCount}
 use Rattle.facts.specs.HeadLaws.{headed-fits}
+use Rattle.taskfile.specs.Task.{maxActions, maxVariables, maxValues}
 use Rattle.taskfile.specs.TaskFile.{readActions}
 use Rattle.taskfile.specs.TaskIndexLaws.{count-fits, task-no-count, task-no-actions, task-trailing, task-good, located, noted-none, noted-good}
 use borrow.Author.Needs.{needs}
@@ -15,7 +16,7 @@ use native.Mathlib.Omega.{arith}
 use Rattle.index.proofs.pass.index_actions.Statement.{statement}
 use Rattle.index.proofs.pass.index_actions.Tie as tie
 
-count-is : (c : tie.After-count) → let a = c .before .before .before .before .before .args in valueOf (readCount (now (a .file)) 1 32 (a .at)) ≡ accepted (c .count .given .0 .0)
+count-is : (c : tie.After-count) → let a = c .before .before .before .before .before .args in valueOf (readCount (now (a .file)) 1 maxActions (a .at)) ≡ accepted (c .count .given .0 .0)
 count-is c = sym (c .before .before .read-count .ensures) ∙ ap fieldAnswer (c .count .given .1)
 
 -- the domain sizes are one for each variable
@@ -26,19 +27,19 @@ actions-are : (c : tie.After-end) → let a = c .before .before .before .before 
 actions-are c = sym (c .before .before .before .before .actions-end .ensures .0 .0) ∙ ap pastAnswer (c .end .given .1)
 
 add-last : tie.Need-add-last
-add-last c = omega (arith, headed-fits _ 24 8 (c .before .before .before .before .before .before .pre .0))
+add-last c = omega (arith, headed-fits _ maxVariables maxValues (c .before .before .before .before .before .before .pre .0))
 
 add-actions-end : tie.Need-add-actions-end
 add-actions-end c = omega (arith, count-fits _ (c .before .before .before .before .before .before .pre .0) (count-is (c .before)))
 
 part-actions-end-end : tie.Need-part-actions-end-end
-part-actions-end-end c = omega (arith, headed-fits _ 24 8 (c .before .before .before .before .before .before .pre .0))
+part-actions-end-end c = omega (arith, headed-fits _ maxVariables maxValues (c .before .before .before .before .before .before .pre .0))
 
 actions-end-requires : tie.Need-actions-end-requires
 actions-end-requires c κs =
     let s = c .before .before .before .before .before .before .before .before in
     let few = count-fits _ (s .pre .0) (count-is (c .before .before .before)) .0 in
-    let head = headed-fits _ 24 8 (s .pre .0) in
+    let head = headed-fits _ maxVariables maxValues (s .pre .0) in
     let sizes = length-take-le (1 + s .args .variables - 1) (drop 1 (now (s .args .file))) (simp length-drop (omega (arith, head .1, head .2))) in
     (few, s .pre .1, omega (arith, head .0, sizes))
 

@@ -8,6 +8,7 @@ use denote.Ref.{now}
 use Rattle.facts.specs.Partial.{pastPartial}
 use Rattle.facts.specs.Fields.{writeEach}
 use Rattle.facts.specs.WriteLaws.{wrote-inside, wrote-room, wrote-then}
+use Rattle.taskfile.specs.Task.{maxNodes}
 use Rattle.taskfile.specs.WalkInPlace.{nodeCount}
 use Rattle.probefile.specs.ProbeFile.{writeStep}
 use Rattle.compilation.specs.Compile.{flat, nodeSteps}
@@ -45,7 +46,7 @@ two-long : (c : tie.After-byte-at) → length (start c ++ nodes c) ≡ length (s
 two-long c = length-append (start c) (nodes c)
 
 -- no more nodes than an action may have, each of which tests one of the variables
-few : (c : tie.After-byte-at) → c .byte-at .result ≤ 64
+few : (c : tie.After-byte-at) → c .byte-at .result ≤ maxNodes
 few c = omega (arith, count-is c, c .before .before .before .before .before .pre .0 .0 .few)
 
 tests : (c : tie.After-byte-at) (j : ℕ) → j < c .byte-at .result → Tests (now (c .before .before .before .before .before .args .file)) (now (c .before .before .before .before .before .args .sizes)) (getD (now (c .before .before .before .before .before .args .nodes)) j 0)

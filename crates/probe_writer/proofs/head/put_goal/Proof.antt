@@ -11,6 +11,7 @@ use Rattle.probe_writer.specs.HeadLaws.{goal-is, row-fits, wrote-goal}
 use borrow.Author.Needs.{needs}
 use Rattle.probe_writer.proofs.head.put_goal.Statement.{statement}
 use Rattle.probe_writer.proofs.head.put_goal.Tie as tie
+use Rattle.taskfile.specs.Task.{maxMarkers}
 
 -- the task's goal
 abbrev goal : tie.Start → Partial
@@ -44,7 +45,7 @@ put-goal-spec =
     (λ c κs. search needs)
     (λ c. search needs)
     (λ c. search needs)
-    (λ c. let s = c .before .before .before .before .before in sym (length-take-le (1 + s .args .actions) (replicate 33 0) (omega (arith, s .pre .0 .1))))
+    (λ c. let s = c .before .before .before .before .before in sym (length-take-le (1 + s .args .actions) (replicate maxMarkers 0) (omega (arith, s .pre .0 .1))))
     put-extended-requires
     (λ c. search needs)
     returns)

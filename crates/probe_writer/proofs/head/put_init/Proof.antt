@@ -10,6 +10,7 @@ use Rattle.probe_writer.specs.HeadLaws.{wrote-init}
 use borrow.Author.Needs.{needs}
 use Rattle.probe_writer.proofs.head.put_init.Statement.{statement}
 use Rattle.probe_writer.proofs.head.put_init.Tie as tie
+use Rattle.taskfile.specs.Task.{maxMarkers}
 
 -- the lengths of the two rows
 own-long : (c : tie.Start) → length (take (1 + c .args .n + c .args .n - (1 + c .args .n)) (drop (1 + c .args .n) (now (c .args .file)))) ≡ c .args .n
@@ -17,8 +18,8 @@ own-long c =
     length-take-le (1 + c .args .n + c .args .n - (1 + c .args .n)) (drop (1 + c .args .n) (now (c .args .file))) (rw (length-drop (1 + c .args .n) (now (c .args .file))) (omega (arith, c .pre .0)))
     ∙ omega arith
 
-further-long : (c : tie.Start) → length (take {A = ℕ} (1 + c .args .actions) (replicate 33 0)) ≡ 1 + c .args .actions
-further-long c = length-take-le (1 + c .args .actions) (replicate 33 0) (omega (arith, c .pre .0))
+further-long : (c : tie.Start) → length (take {A = ℕ} (1 + c .args .actions) (replicate maxMarkers 0)) ≡ 1 + c .args .actions
+further-long c = length-take-le (1 + c .args .actions) (replicate maxMarkers 0) (omega (arith, c .pre .0))
 
 add-result : tie.Need-add-result
 add-result c = let s = c .before .before .before .before .before .before .before .before .before .before .before .before in omega (arith, own-long s, further-long s, s .pre, c .before .before .before .before .before .before .before .put-bytes .ensures .count, c .before .before .put-bytes2 .ensures .count)

@@ -7,6 +7,7 @@ use Rattle.facts.specs.Read.{accepted}
 use Rattle.facts.specs.Answers.{pastAnswer}
 use Rattle.facts.specs.Fields.{nextOf}
 use Rattle.facts.specs.HeadLaws.{headed-fits}
+use Rattle.probefile.specs.Probe.{maxVariables, maxValues}
 use Rattle.probefile.specs.ProbeFile.{readSteps}
 use Rattle.probefile.specs.IndexLaws.{count-fits, probe-no-steps, probe-trailing, probe-good, located, located-none}
 use borrow.Author.Needs.{needs}
@@ -44,11 +45,11 @@ pub index-steps-spec : {M : Type 1} → statement M
 index-steps-spec =
     tie.close
     (tie.spec
-    (λ c. omega (arith, headed-fits _ 57 66 (c .before .before .pre .0)))
+    (λ c. omega (arith, headed-fits _ maxVariables maxValues (c .before .before .pre .0)))
     (λ c. omega (arith, count-fits _ (c .before .before .pre .0) (c .before .before .pre .1)))
     (λ c. search needs)
     (λ c. search needs)
-    (λ c. omega (arith, headed-fits _ 57 66 (c .before .before .pre .0)))
+    (λ c. omega (arith, headed-fits _ maxVariables maxValues (c .before .before .pre .0)))
     (λ c κs. c .before .before .before .before .pre .2)
     (λ c. search needs)
     (λ c. search needs)

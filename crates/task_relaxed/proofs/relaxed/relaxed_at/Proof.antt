@@ -4,7 +4,7 @@ use Prim.Native.Nat.{_*_, _-_, _≤_}
 use mathlib.Core.Path.{_≡_, refl, _∙_}
 use lib.ListN.{length, length-set}
 use native.Mathlib.Omega.{arith}
-use Rattle.taskfile.specs.Task.{maxWeight}
+use Rattle.taskfile.specs.Task.{maxWeight, maxNumbers}
 use Rattle.taskfile.specs.PartsInPlace.{actionIn}
 use Rattle.relaxation.specs.Pass.{Filled}
 use Rattle.relaxation.specs.RelaxedPass.{relaxedPass}
@@ -16,7 +16,7 @@ use Rattle.task_relaxed.proofs.relaxed.relaxed_at.Tie as tie
 
 abbrev Inv-loop : tie.InvT-loop
 Inv-loop file sizes at nodes sets diagram least₀ k₀ least k =
-    (k ≤ diagram .count) × (length least ≡ 66) × (greatest least ≤ maxWeight * (diagram .count - k)) × Filled (relaxedPass sets) (λ n. n) (actionIn file sizes at nodes .nodes) k least
+    (k ≤ diagram .count) × (length least ≡ maxNumbers) × (greatest least ≤ maxWeight * (diagram .count - k)) × Filled (relaxedPass sets) (λ n. n) (actionIn file sizes at nodes .nodes) k least
 
 abbrev μ-loop : tie.MeasureT-loop
 μ-loop file sizes at nodes sets diagram least₀ k₀ least k = k
@@ -52,7 +52,7 @@ relaxed-at-spec =
     Inv-loop
     μ-loop
     (λ c κs. search needs)
-    (λ c. (omega arith, refl, omega arith, least-start (c .before .before .before .before .before .pre) 66 (c .diagram-at .ensures .1)))
+    (λ c. (omega arith, refl, omega arith, least-start (c .before .before .before .before .before .pre) maxNumbers (c .diagram-at .ensures .1)))
     (λ c. omega (arith, c .loop-test .taken))
     (λ c κs. search needs)
     (λ c. search needs)
