@@ -11,8 +11,10 @@ pub mod ListRows
 pub mod StartRows
 pub mod OperationRows
 pub mod StateRows
--- Which numbers are given at all.
+-- Which numbers are given at all, at which places, and how large answers can be.
 pub mod Numbers
+pub mod PlaceLaws
+pub mod Ranges
 -- The table: read this first.
 pub mod Table
 -- The document's cases, computed: the marked ones, and the table's examples.

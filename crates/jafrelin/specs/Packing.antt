@@ -1,5 +1,5 @@
 -- How an answer is packed into the 64 bits that a C function returns, and what each C function returns.
-use Prim.Native.Nat.{ℕ, _+_, _*_, _%_}
+use Prim.Native.Nat.{ℕ, zero, suc, _+_, _*_, _/_, _%_}
 use Rattle.facts.specs.Read.{Read, accepted, refused}
 use Rattle.estimate.specs.Number.{Number, exact, over, never}
 
@@ -40,3 +40,44 @@ packedNumber never = packed 0 2 0
 abbrev pub packedEstimate : Read Number → ℕ
 packedEstimate (accepted number) = packedNumber number
 packedEstimate (refused number place) = packedRefusal number place
+
+-- ---- the parts of a result, by the names of include/jafrelin.h
+
+-- JAFRELIN_REFUSAL: bits 63 to 56
+abbrev pub refusalOf : ℕ → ℕ
+refusalOf w = w / 72057594037927936
+
+-- JAFRELIN_LENGTH: bits 55 to 32
+abbrev pub lengthOf : ℕ → ℕ
+lengthOf w = w / 4294967296 % 16777216
+
+-- JAFRELIN_SUM and JAFRELIN_PLACE: bits 31 to 0
+abbrev pub sumOf : ℕ → ℕ
+sumOf w = w % 4294967296
+
+abbrev pub placeOf : ℕ → ℕ
+placeOf w = w % 4294967296
+
+-- ---- what a caller makes of a result: where the refusal's number is 0 the value, else the refusal
+
+abbrev pub unpacked : {X : Type 0} → (ℕ → X) → ℕ → Read X
+unpacked value w = elim (refusalOf w) [ zero ↦ accepted (value w) | suc n ↦ refused (suc n) (placeOf w) ]
+
+abbrev pub unpackedCheck : ℕ → Read (Unit {0})
+unpackedCheck w = unpacked (λ w. tt) w
+
+abbrev pub unpackedSum : ℕ → Read ℕ
+unpackedSum w = unpacked sumOf w
+
+abbrev pub unpackedLength : ℕ → Read ℕ
+unpackedLength w = unpacked lengthOf w
+
+abbrev pub unpackedList : ℕ → Read (ℕ × ℕ)
+unpackedList w = unpacked (λ w. (lengthOf w, sumOf w)) w
+
+-- JAFRELIN_EXACT 0, JAFRELIN_OVER 1, JAFRELIN_NEVER 2
+abbrev pub unpackedNumber : ℕ → Number
+unpackedNumber w = elim (lengthOf w) [ zero ↦ exact (sumOf w) | suc k ↦ elim k [ zero ↦ over | suc j ↦ never ] ]
+
+abbrev pub unpackedEstimate : ℕ → Read Number
+unpackedEstimate w = unpacked unpackedNumber w

@@ -1,0 +1,271 @@
+-- How large the answers of the operations can be, for every file, list, state and buffer: each place, and each length, cost, sum and exact estimate.
+use mathlib.Core.Path.{_≡_, refl, sym, _∙_}
+use mathlib.Core.Option.{Option, none, some}
+use Prim.Native.Nat.{ℕ, suc, _+_, _*_, _≤_, _<_, min}
+use native.Mathlib.Nat.{mul-suc, mul-le-mul-left}
+use native.Mathlib.Omega.{arith}
+use mathlib.Core.Bool.{Bool, true, false}
+use mathlib.Core.List.{List, [], _∷_, map}
+use lib.Dec.{leb, ltb, eqb}
+use lib.ListN.{length, getElem?}
+use Rattle.facts.specs.Read.{Read, accepted, refused, withValue, _>>=_}
+use Rattle.facts.specs.ReadLaws.{through, bind-assoc}
+use Rattle.facts.specs.Lists.{All, nil, cons, At}
+use Rattle.facts.specs.ListLaws.{found, all-at, at-length}
+use Rattle.facts.specs.Bytes.{Bytes}
+use Rattle.facts.specs.Partial.{Partial, holds}
+use Rattle.facts.specs.State.{Inside, checkValues, checkWith, checkState}
+use Rattle.facts.specs.StateLaws.{state-inside}
+use Rattle.facts.specs.Run.{Move, next, blocked, attempt, moved, runFrom, atMost}
+use Rattle.facts.specs.RunLaws.{attempt-next, attempt-blocked, not-blocked}
+use Rattle.estimate.specs.Number.{Number, WithinCap}
+use Rattle.estimate.specs.Additive.{estimateFile}
+use Rattle.estimate.specs.AdditiveLaws.{additive-within}
+use Rattle.taskfile.specs.Task.{Action, Task, maxBytes, maxList, maxCost, cost, perform, actionMove, taskSum}
+use Rattle.taskfile.specs.TaskFile.{readTask, checkTask, actionOf, askTask, costTask, runTask}
+use Rattle.taskfile.specs.TaskReadLaws.{task-wf, task-limits}
+use Rattle.taskfile.specs.TaskLaws.{attempt-inside, accepted-cost}
+use Rattle.probefile.specs.Probe.{Step, Probe, stepMove, probeSum, WfStep, WfProbe}
+use Rattle.probefile.specs.Probe.{maxList as maxProbeList, perform as performStep}
+use Rattle.probefile.specs.ProbeFile.{readProbe, checkProbe, writeProbe, runProbe}
+use Rattle.probefile.specs.ProbeLaws.{probe-wf}
+use Rattle.probefile.specs.FrontLaws.{maxBytes as maxProbeBytes}
+use Rattle.probefile.specs.Estimate.{stepAchiever, probeEstimate, estimateProbe}
+use Rattle.relaxation.specs.Least.{leastOf, prefixed, states}
+use Rattle.relaxation.specs.Relaxed.{valuesIn, RelaxedInside, relaxedCost}
+use Rattle.relaxation.specs.RelaxedLaws.{set-below}
+use Rattle.relaxation.specs.RelaxedTask.{goodSet, checkRelaxed, relaxedTask}
+use Rattle.relaxation.specs.RelaxedTaskLaws.{relaxed-inside}
+use Rattle.relaxation.specs.Estimate.{leastCost, actionAchiever, estimate}
+use Rattle.relaxation.specs.EstimateTask.{estimateTask}
+use Rattle.compilation.specs.Compile.{probeOf}
+use Rattle.compilation.specs.CompileFile.{compileFile}
+use Rattle.compilation.specs.CompiledLaws.{task-accepted, compiled-wf}
+use Rattle.compilation.specs.CompiledLengthLaws.{compiled-length}
+use Rattle.compilation.specs.StepLaws.{at-all, all-append, all-map}
+use Rattle.plans.specs.Carry.{expand, contract}
+use Rattle.plans.specs.LengthLaws.{expand-fits}
+use Rattle.carry.specs.CarryFile.{expanded, startsAtMost, contracted, answerIn}
+use Rattle.carry.specs.SameSumLaws.{fits-inv}
+use Rattle.carry.specs.StartLaws.{starts-kept}
+use Rattle.cases.specs.StartRows.{starts-row}
+use Rattle.cases.specs.PlaceLaws.{Within, value, place, Placed, then-within, placed-by, more-within, check-placed, task-places, probe-places}
+
+-- ---- files
+
+checked-range : {X : Type 0} {most : ℕ} {m : Read X} → Placed most m → Placed most (withValue {Y = Unit {0}} (λ x. tt) m)
+checked-range (value u) = value tt
+checked-range (place l) = place l
+
+pub check-task-range : (f : List ℕ) → Placed (suc maxBytes) (checkTask f)
+unfolding checkTask
+check-task-range f = checked-range (task-places f)
+
+pub check-probe-range : (f : List ℕ) → Placed (suc maxProbeBytes) (checkProbe f)
+unfolding checkProbe
+check-probe-range f = checked-range (probe-places f)
+
+-- ---- a state, or a relaxed state, of at most so many variables
+
+values-placed : (good : ℕ → ℕ → Bool) (v : ℕ) (sizes s : List ℕ) (most : ℕ) → v + length sizes ≤ most → Placed most (checkValues good v sizes s)
+values-placed good v [] s most l = value tt
+values-placed good v (d ∷ sizes) [] most l = value tt
+values-placed good v (d ∷ sizes) (x ∷ s) most l = then-within _ (check-placed (good d x) 4 v most (omega arith)) (λ u e g. values-placed good (suc v) sizes s most (omega arith))
+
+with-placed : (good : ℕ → ℕ → Bool) (sizes s : List ℕ) (most : ℕ) → length sizes ≤ most → Placed most (checkWith good sizes s)
+with-placed good sizes s most l = then-within _ (check-placed (eqb (length s) (length sizes)) 12 0 most (omega arith)) (λ u e g. values-placed good 0 sizes s most (omega arith))
+
+-- ---- costs
+
+action-placed : (actions : List Action) (a most : ℕ) → Within (At actions a) most (actionOf actions a)
+unfolding actionOf
+action-placed actions a most = go (getElem? actions a) refl
+  where
+    go : (o : Option Action) → getElem? actions a ≡ o → Within (At actions a) most (elim o as (λ o. Read Action) [ none ↦ refused 11 0 | some x ↦ accepted x ])
+    go none e = place {p = 0} (omega arith)
+    go (some x) e = value (found actions a e)
+
+module _ (f : List ℕ) (bytes : Bytes f) (a : ℕ) (s : List ℕ) where
+  ask-range : (checks : List ℕ → List ℕ → Read (Unit {0})) (answer : Action → List ℕ → ℕ) → ((sizes : List ℕ) → length sizes ≤ 24 → Placed (suc maxBytes) (checks sizes s))
+      → ((t : Task) (x : Action) → readTask f ≡ accepted t → At (t .actions) a x → checks (t .sizes) s ≡ accepted tt → answer x s ≤ maxCost)
+      → Within (λ c. c ≤ maxCost) (suc maxBytes) (askTask checks answer f a s)
+  unfolding askTask
+  ask-range checks answer placed most =
+      then-within _ (task-places f) (λ t h g.
+      then-within _ (action-placed (t .actions) a (suc maxBytes)) (λ x e k.
+      then-within _ (placed (t .sizes) (task-limits f h .variables)) (λ u i g. value (most t x h k i))))
+
+  pub cost-range : Within (λ c. c ≤ maxCost) (suc maxBytes) (costTask f a s)
+  unfolding checkState
+  cost-range =
+      ask-range checkState cost (λ sizes l. with-placed (λ d x. ltb x d) sizes s (suc maxBytes) (omega arith)) (λ t x h k i. accepted-cost f h k s (state-inside (t .sizes) s i) bytes)
+
+-- the least of costs that are each at most so much
+least-most : (cs : List ℕ) (most : ℕ) → All (λ c. c ≤ most) cs → leastOf min 0 cs ≤ most
+least-most [] most h = omega arith
+least-most (c ∷ []) most h = h .0
+least-most (c ∷ d ∷ cs) most h = omega (arith, h .0)
+
+-- states whose every value is in the sets are inside the domains
+prefixed-inside : (d : ℕ) (sizes values : List ℕ) (more : List (List ℕ)) → All (λ x. x < d) values → All (Inside sizes) more → All (Inside (d ∷ sizes)) (prefixed values more)
+prefixed-inside d sizes [] more h g = tt
+prefixed-inside d sizes (x ∷ values) more h g =
+    all-append (Inside (d ∷ sizes)) (map (λ (s : List ℕ). x ∷ s) more) (prefixed values more)
+    (all-map (λ (s : List ℕ). x ∷ s) (Inside (d ∷ sizes)) more (at-all (λ s. (x < d) × Inside sizes s) more (λ j s a. (h .0, all-at (Inside sizes) g a))))
+    (prefixed-inside d sizes values more (h .1) g)
+
+states-inside : {sizes sets : List ℕ} → RelaxedInside sizes sets → All (Inside sizes) (states (map valuesIn sets))
+states-inside nil = (tt, tt)
+states-inside (cons {a = d} {b = set} {xs = sizes} {ys = sets} r z) = prefixed-inside d sizes (valuesIn set) (states (map valuesIn sets)) (set-below r) (states-inside z)
+
+module _ (f : List ℕ) (bytes : Bytes f) (a : ℕ) (sets : List ℕ) where
+  relaxed-most : {t : Task} {x : Action} → readTask f ≡ accepted t → At (t .actions) a x → RelaxedInside (t .sizes) sets → relaxedCost x sets ≤ maxCost
+  unfolding relaxedCost
+  relaxed-most {t} {x} h k inside =
+      let all = states (map valuesIn sets) in
+      least-most (map (cost x) all) maxCost (all-map (cost x) (λ c. c ≤ maxCost) all (at-all (λ s. cost x s ≤ maxCost) all (λ j s i. accepted-cost f h k s (all-at (Inside (t .sizes)) (states-inside inside) i) bytes)))
+
+  pub relaxed-range : Within (λ c. c ≤ maxCost) (suc maxBytes) (relaxedTask f a sets)
+  unfolding checkRelaxed
+  relaxed-range =
+      ask-range f bytes a sets checkRelaxed relaxedCost (λ sizes l. with-placed goodSet sizes sets (suc maxBytes) (omega arith)) (λ t x h k i. relaxed-most h k (relaxed-inside (t .sizes) sets i))
+
+-- ---- estimates
+
+module _ {X : Type 0} (sizes : X → List ℕ) (answer : X → List ℕ → Number) where
+  estimate-range : {most : ℕ} (file : Read X) (s : List ℕ) → Placed most file → ((x : X) → file ≡ accepted x → length (sizes x) ≤ most) → ((x : X) → WithinCap (answer x s))
+      → Within WithinCap most (estimateFile sizes answer file s)
+  unfolding estimateFile checkState
+  estimate-range {most} file s placed few capped = then-within _ placed (λ x h g. then-within _ (with-placed (λ d v. ltb v d) (sizes x) s most (few x h)) (λ u e g. value (capped x)))
+
+pub estimate-task-range : (f s : List ℕ) → Within WithinCap (suc maxBytes) (estimateTask f s)
+estimate-task-range f s =
+    estimate-range (λ t. t .sizes) estimate (readTask f) s (task-places f) (λ t h. omega (arith, task-limits f h .variables)) (λ t. additive-within (t .sizes) (map (actionAchiever leastCost (t .sizes)) (t .actions)) (t .goal) s)
+
+pub estimate-probe-range : (f : List ℕ) → Bytes f → (s : List ℕ) → Within WithinCap (suc maxProbeBytes) (estimateProbe f s)
+estimate-probe-range f bytes s =
+    estimate-range (λ y. y .sizes) probeEstimate (readProbe f) s (probe-places f) (λ y h. omega (arith, probe-wf f bytes h .variables)) (λ y. additive-within (y .sizes) (map stepAchiever (y .steps)) (y .goal) s)
+
+-- ---- runs
+
+moved-within : (m : Move) (i most : ℕ) → i ≤ most → Within (λ q. m ≡ next (q .0) (q .1)) most (moved m i)
+moved-within (next s c) i most l = value refl
+moved-within blocked i most l = place l
+
+-- what an attempt costs is what it was said to cost
+attempt-cost : (pre eff : Partial) (paid : ℕ) (s : List ℕ) {e : List ℕ} {c : ℕ} → attempt pre eff paid s ≡ next e c → c ≡ paid
+attempt-cost pre eff paid s {e} {c} h = go (holds pre s) refl
+  where
+    go : (b : Bool) → holds pre s ≡ b → c ≡ paid
+    go true g = cc (attempt-next pre eff paid s g)
+    go false g = absurd (not-blocked (sym (attempt-blocked pre eff paid s g) ∙ h))
+
+-- Where each move from a state of this kind leads to another and costs at most `dear`, a list of at most `most` entries is refused at `most` at most, and has at most `limit` as its sum.
+module _ (count : ℕ) (move : ℕ → List ℕ → Move) (goal : Partial) (P : List ℕ → Type 0) (dear : ℕ) (kept : (a : ℕ) (s e : List ℕ) (c : ℕ) → P s → move a s ≡ next e c → P e × (c ≤ dear)) where
+  run-range : (most limit : ℕ) (list s : List ℕ) (i sum : ℕ) → P s → i + length list ≤ most → sum + dear * length list ≤ limit → Within (λ c. c ≤ limit) most (runFrom count move goal i sum list s)
+  unfolding runFrom
+  run-range most limit [] s i sum p l u = then-within _ (check-placed (holds goal s) 10 i most (omega arith)) (λ z e g. value (omega arith))
+  run-range most limit (a ∷ list) s i sum p l u =
+      then-within _ (check-placed (ltb a count) 11 i most (omega arith)) (λ z e g.
+      then-within _ (moved-within (move a s) i most (omega arith)) (λ x e m.
+      let k = kept a s (x .0) (x .1) p m in
+      run-range most limit list (x .0) (suc i) (sum + x .1) (k .0) (omega arith) (omega (arith, mul-suc dear (length list), k .1))))
+
+  list-range : (most limit : ℕ) (list s : List ℕ) → P s → dear * most ≤ limit → Within (λ c. c ≤ limit) most (_>>=_ (atMost most list) (λ u. runFrom count move goal 0 0 list s))
+  unfolding atMost
+  list-range most limit list s p u =
+      then-within _ (check-placed (leb (length list) most) 8 most most (omega arith)) (λ z e g.
+      let few = fits-inv most list e in
+      run-range most limit list s 0 0 p (omega arith) (omega (arith, mul-le-mul-left dear few)))
+
+-- the most that a list of actions, and a list of steps, can cost
+abbrev pub mostOfTask : ℕ
+mostOfTask = 419424000
+
+abbrev pub mostOfProbe : ℕ
+mostOfProbe = 436200960
+
+module _ (f : List ℕ) (bytes : Bytes f) {t : Task} (h : readTask f ≡ accepted t) where
+  action-kept : (a : ℕ) (s e : List ℕ) (c : ℕ) → Inside (t .sizes) s → actionMove (t .actions) a s ≡ next e c → Inside (t .sizes) e × (c ≤ maxCost)
+  unfolding actionMove
+  action-kept a s e c inside m = go (getElem? (t .actions) a) refl m
+    where
+      go : (o : Option Action) → getElem? (t .actions) a ≡ o → elim o as (λ o. Move) [ none ↦ blocked | some x ↦ perform x s ] ≡ next e c → Inside (t .sizes) e × (c ≤ maxCost)
+      go none q m = absurd (not-blocked m)
+      go (some x) q m =
+          let k = found (t .actions) a q in
+          (attempt-inside (task-wf f h .actions k) s inside (cost x s) m, omega (arith, attempt-cost (x .pre) (x .eff) (cost x s) s m, accepted-cost f h k s inside bytes))
+
+  task-sum-range : (list : List ℕ) → Within (λ c. c ≤ mostOfTask) maxList (_>>=_ (atMost maxList list) (λ u. taskSum t list))
+  unfolding taskSum
+  task-sum-range list = list-range (length (t .actions)) (actionMove (t .actions)) (t .goal) (Inside (t .sizes)) maxCost action-kept maxList mostOfTask list (t .init) (task-wf f h .init) (omega arith)
+
+module _ {y : Probe} (wf : WfProbe y) where
+  step-kept : (r : ℕ) (s e : List ℕ) (c : ℕ) → Unit {0} → stepMove (y .steps) r s ≡ next e c → Unit {0} × (c ≤ 65535)
+  unfolding stepMove
+  step-kept r s e c u m = go (getElem? (y .steps) r) refl m
+    where
+      go : (o : Option Step) → getElem? (y .steps) r ≡ o → elim o as (λ o. Move) [ none ↦ blocked | some st ↦ performStep st s ] ≡ next e c → Unit {0} × (c ≤ 65535)
+      go none q m = absurd (not-blocked m)
+      go (some st) q m = (tt, omega (arith, attempt-cost (st .pre) (st .eff) (st .cost) s m, all-at (WfStep (y .sizes)) (wf .steps) (found (y .steps) r q) .cost))
+
+  probe-sum-range : (list : List ℕ) → Within (λ c. c ≤ mostOfProbe) maxProbeList (_>>=_ (atMost maxProbeList list) (λ u. probeSum y list))
+  unfolding probeSum
+  probe-sum-range list = list-range (length (y .steps)) (stepMove (y .steps)) (y .goal) (λ s. Unit {0}) 65535 step-kept maxProbeList mostOfProbe list (y .init) tt (omega arith)
+
+pub run-task-range : (f : List ℕ) → Bytes f → (list : List ℕ) → Within (λ sum. sum ≤ mostOfTask) (suc maxBytes) (runTask f list)
+unfolding runTask
+run-task-range f bytes list = then-within _ (task-places f) (λ t h g. more-within (task-sum-range f bytes h list) (omega arith))
+
+pub run-probe-range : (f : List ℕ) → Bytes f → (list : List ℕ) → Within (λ sum. sum ≤ mostOfProbe) (suc maxProbeBytes) (runProbe f list)
+unfolding runProbe
+run-probe-range f bytes list = then-within _ (probe-places f) (λ y h g. more-within (probe-sum-range (probe-wf f bytes h) list) (omega arith))
+
+-- ---- what is written
+
+pub compile-range : (f : List ℕ) (room : ℕ) → Within (λ n. n ≤ 13846) 13846 (compileFile f room)
+unfolding compileFile
+compile-range f room =
+    then-within _ (more-within (task-places f) (omega arith)) (λ t h g.
+    let needed = length (writeProbe (probeOf t)) in
+    then-within _ (check-placed (leb needed room) 7 needed 13846 (compiled-length f h)) (λ u e g. value (compiled-length f h)))
+
+-- a list that is at most so long, and its sum
+abbrev pub Carried : ℕ → ℕ → List ℕ × ℕ → Type 0
+Carried long dear c = (length (c .0) ≤ long) × (c .1 ≤ dear)
+
+expanded-range : (f : List ℕ) → Bytes f → (list : List ℕ) → Within (Carried maxProbeList mostOfTask) maxProbeList (expanded f list)
+unfolding expanded
+expanded-range f bytes list =
+    then-within _ (more-within (task-places f) (omega arith)) (λ t h g.
+    rw (← bind-assoc {Z = List ℕ × ℕ} (atMost maxList list) (λ u. taskSum t list) (λ sum. accepted (expand t list, sum)))
+    (then-within _ (more-within (task-sum-range f bytes h list) (omega arith)) (λ sum e l. value (expand-fits t (task-wf f h) (task-limits f h) list (few t list e), l))))
+  where
+    few : (t : Task) (list : List ℕ) {sum : ℕ} → _>>=_ (atMost maxList list) (λ u. taskSum t list) ≡ accepted sum → length list ≤ maxList
+    few t list e = fits-inv maxList list (through (atMost maxList list) e .first)
+
+contracted-range : (f : List ℕ) → Bytes f → (list : List ℕ) → Within (Carried maxList mostOfProbe) maxProbeList (contracted f list)
+unfolding contracted contract atMost
+contracted-range f bytes list =
+    then-within _ (more-within (task-places f) (omega arith)) (λ t h g.
+    rw (← bind-assoc {Z = List ℕ × ℕ} (atMost maxProbeList list) (λ u. probeSum (probeOf t) list) (λ sum. _>>=_ (startsAtMost (t .actions) maxList 0 list) (λ u. accepted (contract t list, sum))))
+    (then-within _ (probe-sum-range (compiled-wf t (task-accepted f bytes h)) list) (λ sum e l.
+    then-within _ (placed-by (startsAtMost (t .actions) maxList 0 list) (λ n p k. omega (arith, few t e, at-length (starts-row (t .actions) maxList list n p .0 k .1 .entry)))) (λ u k g.
+    value (starts-kept (t .actions) list maxList 0 k, l)))))
+  where
+    few : (t : Task) {sum : ℕ} → _>>=_ (atMost maxProbeList list) (λ u. probeSum (probeOf t) list) ≡ accepted sum → length list ≤ maxProbeList
+    few t e = fits-inv maxProbeList list (through (atMost maxProbeList list) e .first)
+
+-- a list's length and its sum
+abbrev pub Written : ℕ → ℕ → ℕ × ℕ → Type 0
+Written long dear c = (c .0 ≤ long) × (c .1 ≤ dear)
+
+answer-range : {long dear most : ℕ} (room : ℕ) {carried : Read (List ℕ × ℕ)} → long ≤ most → Within (Carried long dear) most carried → Within (Written long dear) most (answerIn room carried)
+unfolding answerIn
+answer-range {long} {dear} {most} room l w = then-within _ w (λ c h g. then-within _ (check-placed (leb (length (c .0)) room) 7 (length (c .0)) most (omega (arith, g .0))) (λ u e z. value g))
+
+pub expand-range : (f : List ℕ) → Bytes f → (list : List ℕ) (room : ℕ) → Within (Written maxProbeList mostOfTask) maxProbeList (answerIn room (expanded f list))
+expand-range f bytes list room = answer-range room (omega arith) (expanded-range f bytes list)
+
+pub contract-range : (f : List ℕ) → Bytes f → (list : List ℕ) (room : ℕ) → Within (Written maxList mostOfProbe) maxProbeList (answerIn room (contracted f list))
+contract-range f bytes list room = answer-range room (omega arith) (contracted-range f bytes list)
