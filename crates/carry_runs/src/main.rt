@@ -92,7 +92,7 @@ fn show_carried(answer: Carried, out: &[u16]) {
         Carried::Refused(why) => show::refusal(why),
         Carried::List(length, sum) => {
             io::print_decimal(1, length as u64);
-            show::number(b" entries, sum ", sum);
+            show::count(b" entries, sum", sum);
         }
     }
     show_entry(out, 0);

@@ -1,9 +1,42 @@
-// What programs write about answers, to standard output, a line each.
-use estimate::Est;
+// Answers on standard output, a line each, in the words of `report`.
 use estimate::Estimated;
 use facts::Checked;
 use facts::Ran;
 use facts::Refusal;
+ghost use Rattle.io.specs.Counts.{Counts};
+
+// More bytes than any of these lines has.
+const LINE: usize = 64;
+
+// Writes the first n bytes of a line.
+fn write(line: &[u8], n: usize) {
+    let most = within(n, line);
+    io::write_all(1, &line[..most]);
+}
+
+// The number n, or the length of a line if that is less.
+fn within(n: usize, line: &[u8]) -> usize
+    ensures { λ r. ⌜ Counts r (now (line .entry)) ⌝ }
+{
+    if line.len() < n {
+        return line.len();
+    }
+    n
+}
+
+// A refusal, as `refused 2 at 40`: number and place.
+pub fn refusal(why: Refusal) {
+    let mut line = [0; LINE];
+    let n = report::put_refusal(&mut line, 0, why);
+    write(&line, n);
+}
+
+// A number after its name.
+pub fn count(name: &[u8], value: u32) {
+    let mut line = [0; LINE];
+    let n = report::put_count(&mut line, 0, name, value);
+    write(&line, n);
+}
 
 // Whether a file is accepted.
 pub fn checked(answer: Checked) {
@@ -18,7 +51,7 @@ pub fn checked(answer: Checked) {
 // The sum of a run.
 pub fn ran(answer: Ran) {
     match answer {
-        Ran::Sum(sum) => number(b"sum ", sum),
+        Ran::Sum(sum) => count(b"sum", sum),
         Ran::Refused(why) => refusal(why),
     }
 }
@@ -27,30 +60,10 @@ pub fn ran(answer: Ran) {
 pub fn estimated(answer: Estimated) {
     match answer {
         Estimated::Refused(why) => refusal(why),
-        Estimated::Number(e) => match e {
-            Est::Exact(n) => number(b"estimate ", n),
-            Est::Over => {
-                io::write_all(1, b"estimate over\n");
-            }
-            Est::Never => {
-                io::write_all(1, b"estimate never\n");
-            }
-        },
+        Estimated::Number(e) => {
+            let mut line = [0; LINE];
+            let n = report::put_estimate(&mut line, 0, e);
+            write(&line, n);
+        }
     }
-}
-
-// A number after its name.
-pub fn number(name: &[u8], value: u32) {
-    io::write_all(1, name);
-    io::print_decimal(1, value as u64);
-    io::write_all(1, b"\n");
-}
-
-// A refusal, as `refused 2 at 40`: number and place.
-pub fn refusal(why: Refusal) {
-    io::write_all(1, b"refused ");
-    io::print_decimal(1, facts::refusal_number(why) as u64);
-    io::write_all(1, b" at ");
-    io::print_decimal(1, facts::refusal_place(why) as u64);
-    io::write_all(1, b"\n");
 }

@@ -78,16 +78,16 @@ fn estimates(p: &[u8]) {
 }
 
 fn show_cost(file: &[u8], action: usize, state: &[u8]) {
-    show_costed(b"cost ", task::cost(file, action, state));
+    show_costed(b"cost", task::cost(file, action, state));
 }
 
 fn show_relaxed(file: &[u8], action: usize, sets: &[u8]) {
-    show_costed(b"relaxed ", task_relaxed::relaxed_cost(file, action, sets));
+    show_costed(b"relaxed", task_relaxed::relaxed_cost(file, action, sets));
 }
 
 fn show_costed(what: &[u8], answer: Costed) {
     match answer {
-        Costed::Cost(cost) => show::number(what, cost),
+        Costed::Cost(cost) => show::count(what, cost),
         Costed::Refused(why) => show::refusal(why),
     }
 }
