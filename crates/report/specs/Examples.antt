@@ -1,38 +1,95 @@
--- Answers in words, computed.
+-- Answers in words, computed: each refusal, with its sentence for each subject, each kind of estimate, and each fault of a text.
 use mathlib.Core.Path.{_≡_, refl}
-use Rattle.facts.specs.declared.Refusal.the-variants.{Trailing, Outside, Long}
-use Rattle.estimate.specs.declared.Est.the-variants.{Exact}
+use Prim.Native.Nat.{ℕ}
+use mathlib.Core.List.{List, [], _∷_, map}
+use Prim.Native.String.{String}
+use Rattle.facts.specs.declared.Refusal.{Refusal}
+use Rattle.facts.specs.declared.Refusal.the-variants.{Ends, Trailing, Range, Outside, Stray, Diagram, Short, Long, Blocked, Unmet, Missing, Width}
+use Rattle.estimate.specs.declared.Est.the-variants.{Never, Over, Exact}
 use Rattle.text.specs.Text.{decimal}
 use Rattle.text.specs.Append.{bytes}
-use Rattle.report.specs.declared.Subject.the-variants.{File, State, Contracted}
-use Rattle.report.specs.Report.{refusalText, countText, estimateText, explanation}
+use Rattle.report.specs.declared.Subject.{Subject}
+use Rattle.report.specs.declared.Subject.the-variants.{File, State, Sets, List as OfList, Contracted}
+use Rattle.report.specs.declared.Fault.the-variants.{Stray as StrayByte, Large, NotOne, Long as LongText}
+use Rattle.report.specs.Report.{refusalText, countText, estimateText, faultText, explanation}
 
--- document 01's words
-two : refusalText (Trailing 40) ≡ bytes "refused 2 at 40\n"
+-- what is said, and the words
+abbrev Said : {A : Type 0} → (A → List ℕ) → List (A × String) → Type 0
+Said said table = map (λ c. said (c .0)) table ≡ map (λ c. bytes (c .1)) table
+
+-- "refused 2 at 40", by document 01's examples
+refusals : Said refusalText (
+    (Ends 0, "refused 1 at 0\n")
+    ∷ (Trailing 40, "refused 2 at 40\n")
+    ∷ (Range 0, "refused 3 at 0\n")
+    ∷ (Outside 2, "refused 4 at 2\n")
+    ∷ (Stray 3, "refused 5 at 3\n")
+    ∷ (Diagram 33, "refused 6 at 33\n")
+    ∷ (Short 106, "refused 7 at 106\n")
+    ∷ (Long 256, "refused 8 at 256\n")
+    ∷ (Blocked 1, "refused 9 at 1\n")
+    ∷ (Unmet 0, "refused 10 at 0\n")
+    ∷ (Missing 0, "refused 11 at 0\n")
+    ∷ (Width 0, "refused 12 at 0\n")
+    ∷ [])
 unfolding decimal
-two = refl
+refusals = refl
 
 summed : countText (bytes "sum") 8 ≡ bytes "sum 8\n"
 unfolding decimal
 summed = refl
 
-estimated : estimateText (Exact 1) ≡ bytes "estimate 1\n"
+estimates : Said estimateText (
+    (Exact 0, "estimate 0\n")
+    ∷ (Exact 4294967295, "estimate 4294967295\n")
+    ∷ (Over, "estimate over\n")
+    ∷ (Never, "estimate never\n")
+    ∷ [])
 unfolding decimal
-estimated = refl
+estimates = refl
 
--- the same number and place, of a file and of a state
-of-file : explanation File (Outside 2) ≡ bytes "The value at byte 2 is outside the domain of its variable.\n"
+faults : Said faultText (
+    (StrayByte 2, "byte 2 of the text is neither a digit nor a blank\n")
+    ∷ (Large 2 255, "the number at byte 2 of the text is above 255\n")
+    ∷ (NotOne, "one number is expected\n")
+    ∷ (LongText 65536, "the text has more than 65536 bytes\n")
+    ∷ [])
 unfolding decimal
-of-file = refl
+faults = refl
 
-of-state : explanation State (Outside 2) ≡ bytes "Variable 2 has a value outside its domain.\n"
+-- sentences that do not depend on the subject
+any-subject : (subject : Subject) → Said (explanation subject) (
+    (Ends 0, "The file ends before or inside the field that begins at byte 0.\n")
+    ∷ (Trailing 40, "The last field ends before byte 40, and the file goes on.\n")
+    ∷ (Range 0, "The count or domain size at byte 0 is outside its range, or there are more than 64 nodes with it.\n")
+    ∷ (Stray 3, "The map at byte 3 has a bit for a variable that there is not.\n")
+    ∷ (Diagram 33, "The node variable or target at byte 33 is against the rules: a node tests a variable of the task, and an edge leads to a later node that tests a later variable, or to the end.\n")
+    ∷ (Short 106, "The result needs room for 106.\n")
+    ∷ (Blocked 1, "Entry 1 of the list, counted from 0, does not apply in the state that the entries before it lead to.\n")
+    ∷ (Unmet 2, "After all 2 entries of the list the goal does not hold.\n")
+    ∷ (Width 0, "There has to be one number for each variable.\n")
+    ∷ [])
 unfolding decimal
-of-state = refl
+any-subject subject = refl
 
-too-many-actions : explanation Contracted (Long 768) ≡ bytes "The list comes from more than 256 actions: entry 768, counted from 0, starts the first that is too many.\n"
+-- sentences that do: 4, 8 and 11
+each-subject : Said (λ (c : Subject × Refusal). explanation (c .0) (c .1)) (
+    ((File, Outside 2), "The value at byte 2 is outside the domain of its variable.\n")
+    ∷ ((State, Outside 2), "Variable 2 has a value outside its domain.\n")
+    ∷ ((Sets, Outside 2), "The set of variable 2 is empty, or has a bit for a value that there is not.\n")
+    ∷ ((OfList, Outside 2), "The value at byte 2 is outside the domain of its variable.\n")
+    ∷ ((Contracted, Outside 2), "The value at byte 2 is outside the domain of its variable.\n")
+    ∷ ((File, Long 256), "The list has more than 256 entries, its limit.\n")
+    ∷ ((State, Long 256), "The list has more than 256 entries, its limit.\n")
+    ∷ ((Sets, Long 256), "The list has more than 256 entries, its limit.\n")
+    ∷ ((OfList, Long 256), "The list has more than 256 entries, its limit.\n")
+    ∷ ((Contracted, Long 6656), "The list has more than 6656 entries, its limit.\n")
+    ∷ ((Contracted, Long 768), "The list comes from more than 256 actions: entry 768, counted from 0, starts the first that is too many.\n")
+    ∷ ((File, Missing 1), "Entry 1 of the list, counted from 0, is the number of no action or step.\n")
+    ∷ ((State, Missing 0), "There is no action of this number.\n")
+    ∷ ((Sets, Missing 0), "There is no action of this number.\n")
+    ∷ ((OfList, Missing 1), "Entry 1 of the list, counted from 0, is the number of no action or step.\n")
+    ∷ ((Contracted, Missing 1), "Entry 1 of the list, counted from 0, is the number of no action or step.\n")
+    ∷ [])
 unfolding decimal
-too-many-actions = refl
-
-too-long : explanation Contracted (Long 6656) ≡ bytes "The list has more than 6656 entries, its limit.\n"
-unfolding decimal
-too-long = refl
+each-subject = refl
