@@ -21,6 +21,7 @@ pub mod PassInPlaceLaws
 pub mod SumsLaws
 pub mod LeastByPass
 pub mod RelaxedLaws
+pub mod SetLaws
 pub mod RelaxedInPlaceLaws
 pub mod LeastCostLaws
 pub mod EstimateRounds
