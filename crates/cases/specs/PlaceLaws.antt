@@ -21,7 +21,7 @@ use Rattle.taskfile.specs.FrontLaws.{front-enough}
 use Rattle.probefile.specs.Probe.{maxSteps}
 use Rattle.probefile.specs.Probe.{maxVariables as maxProbeVariables, maxValues as maxProbeValues}
 use Rattle.probefile.specs.ProbeFile.{readStep, readStepCount, readSteps, readProbe}
-use Rattle.probefile.specs.FrontLaws.{maxBytes as maxProbeBytes}
+use Rattle.probefile.specs.Probe.{maxBytes as maxProbeBytes}
 use Rattle.probefile.specs.FrontLaws.{front-enough as probe-front-enough}
 
 -- ---- answers

@@ -21,7 +21,7 @@ use Rattle.facts.specs.RunLaws.{attempt-next, attempt-blocked, not-blocked}
 use Rattle.estimate.specs.Number.{Number, WithinCap}
 use Rattle.estimate.specs.Additive.{estimateFile}
 use Rattle.estimate.specs.AdditiveLaws.{additive-within}
-use Rattle.taskfile.specs.Task.{Action, Task, maxBytes, maxList, maxCost, cost, perform, actionMove, taskSum}
+use Rattle.taskfile.specs.Task.{Action, Task, maxVariables, maxBytes, maxWritten, maxList, maxCost, cost, perform, actionMove, taskSum}
 use Rattle.taskfile.specs.TaskFile.{readTask, checkTask, actionOf, askTask, costTask, runTask}
 use Rattle.taskfile.specs.TaskReadLaws.{task-wf, task-limits}
 use Rattle.taskfile.specs.TaskLaws.{attempt-inside, accepted-cost}
@@ -29,7 +29,7 @@ use Rattle.probefile.specs.Probe.{Step, Probe, stepMove, probeSum, WfStep, WfPr
 use Rattle.probefile.specs.Probe.{maxList as maxProbeList, perform as performStep}
 use Rattle.probefile.specs.ProbeFile.{readProbe, checkProbe, writeProbe, runProbe}
 use Rattle.probefile.specs.ProbeLaws.{probe-wf}
-use Rattle.probefile.specs.FrontLaws.{maxBytes as maxProbeBytes}
+use Rattle.probefile.specs.Probe.{maxBytes as maxProbeBytes}
 use Rattle.probefile.specs.Estimate.{stepAchiever, probeEstimate, estimateProbe}
 use Rattle.relaxation.specs.Least.{leastOf, prefixed, states}
 use Rattle.relaxation.specs.Relaxed.{valuesIn, RelaxedInside, relaxedCost}
@@ -86,7 +86,7 @@ action-placed actions a most = go (getElem? actions a) refl
     go (some x) e = value (found actions a e)
 
 module _ (f : List ℕ) (bytes : Bytes f) (a : ℕ) (s : List ℕ) where
-  ask-range : (checks : List ℕ → List ℕ → Read (Unit {0})) (answer : Action → List ℕ → ℕ) → ((sizes : List ℕ) → length sizes ≤ 24 → Placed (suc maxBytes) (checks sizes s))
+  ask-range : (checks : List ℕ → List ℕ → Read (Unit {0})) (answer : Action → List ℕ → ℕ) → ((sizes : List ℕ) → length sizes ≤ maxVariables → Placed (suc maxBytes) (checks sizes s))
       → ((t : Task) (x : Action) → readTask f ≡ accepted t → At (t .actions) a x → checks (t .sizes) s ≡ accepted tt → answer x s ≤ maxCost)
       → Within (λ c. c ≤ maxCost) (suc maxBytes) (askTask checks answer f a s)
   unfolding askTask
@@ -223,12 +223,12 @@ run-probe-range f bytes list = then-within _ (probe-places f) (λ y h g. more-wi
 
 -- ---- what is written
 
-pub compile-range : (f : List ℕ) (room : ℕ) → Within (λ n. n ≤ 13846) 13846 (compileFile f room)
+pub compile-range : (f : List ℕ) (room : ℕ) → Within (λ n. n ≤ maxWritten) maxWritten (compileFile f room)
 unfolding compileFile
 compile-range f room =
     then-within _ (more-within (task-places f) (omega arith)) (λ t h g.
     let needed = length (writeProbe (probeOf t)) in
-    then-within _ (check-placed (leb needed room) 7 needed 13846 (compiled-length f h)) (λ u e g. value (compiled-length f h)))
+    then-within _ (check-placed (leb needed room) 7 needed maxWritten (compiled-length f h)) (λ u e g. value (compiled-length f h)))
 
 -- a list that is at most so long, and its sum
 abbrev pub Carried : ℕ → ℕ → List ℕ × ℕ → Type 0
