@@ -1,11 +1,18 @@
 // Runs the known cases about plans carried across (document 01) with the code itself; what it writes is compared with the file stdout.
 use carry::Carried;
+use probefile::Probe;
+use taskfile::Task;
 ghost use mathlib.Core.Path.{_≡_};
 ghost use lib.ListN.{length};
 
 // Task P.
 const P: [u8; 40] =
     *b"\x01\x02\x00\x01\x00\x00\x00\x00\x00\x00\x00\x01\x01\x00\x00\x00\x00\x00\x00\x00\x00\x01\x00\x00\x00\x00\x00\x00\x00\x01\x03\x00\x01\x00\x02\x05\x00\x02\x00\x00";
+
+// One action more than a source list may have; P's action comes to three entries, so so many are allowed.
+const REPEATS: usize = Task::MAX_LIST + 1;
+
+const ALLOWED: usize = 3 * Task::MAX_LIST;
 
 fn main() {
     expansions();
@@ -19,7 +26,7 @@ fn expansions() {
     let twice: [u16; 2] = [0, 0];
     let none: [u16; 0] = [];
     let missing: [u16; 1] = [1];
-    let long: [u16; 257] = [0; 257];
+    let long: [u16; REPEATS] = [0; REPEATS];
     show_expanded(&once);
     show_expanded(&twice);
     show_expanded(&none);
@@ -37,7 +44,7 @@ fn contractions() {
     let unmet: [u16; 2] = [0, 1];
     let blocked: [u16; 3] = [0, 2, 3];
     let missing: [u16; 1] = [4];
-    let long: [u16; 6657] = [0; 6657];
+    let long: [u16; Probe::MAX_LIST + 1] = [0; Probe::MAX_LIST + 1];
     show_contracted(&once);
     show_contracted(&twice);
     show_contracted(&unmet);
@@ -52,20 +59,20 @@ fn contractions() {
 // P's action 256 times over, and 257 times.
 fn repeats() {
     let list = repeated();
-    show_contracted(&list[..768]);
+    show_contracted(&list[..ALLOWED]);
     show_contracted(&list);
-    let mut out: [u16; 256] = [9; 256];
-    let answer = contract::contract(&P, &list[..768], &mut out);
+    let mut out: [u16; Task::MAX_LIST] = [9; Task::MAX_LIST];
+    let answer = contract::contract(&P, &list[..ALLOWED], &mut out);
     show_carried(answer, &out);
 }
 
 // P's action 257 times over: start, edge, end. The value that its node tests is 0 at first, then 1.
-fn repeated() -> [u16; 771]
+fn repeated() -> [u16; 3 * REPEATS]
     ensures { λ r. ⌜ 771 ≡ length r ⌝ }
 {
-    let mut list = [3; 771];
+    let mut list = [3; 3 * REPEATS];
     let mut i: usize = 0;
-    while i < 257 {
+    while i < REPEATS {
         list[3 * i] = 0;
         list[3 * i + 1] = 2;
         i += 1;

@@ -1,4 +1,6 @@
 // Runs the known cases about probe files (document 01) with the code itself; what it writes is compared with the file stdout.
+use probefile::Probe;
+
 fn main() {
     let file =
         b"\x03\x02\x02\x03\x00\x00\x00\x07\x00\x00\x00\x00\x00\x00\x00\x01\x00\x00\x04\x00\x06\x00\x00\x00\x00\x00\x00\x00\x00\x00\x06\x00\x00\x00\x00\x00\x00\x00\x01\x01\x03\x00\x05\x00\x00\x00\x00\x00\x00\x00\x00\x01\x04\x00\x00\x00\x00\x00\x00\x00\x02\x05\x00\x05\x00\x00\x00\x00\x00\x00\x00\x01\x01\x04\x00\x00\x00\x00\x00\x00\x00\x02\x00\x00\x04\x00\x00\x00\x00\x00\x00\x00\x02\x07\x00\x00\x00\x00\x00\x00\x00\x01\x00\x00\x00\x00";
@@ -10,8 +12,8 @@ fn main() {
     let unmet: [u16; 2] = [0, 1];
     let blocked: [u16; 3] = [0, 2, 3];
     let missing: [u16; 2] = [0, 4];
-    let longest: [u16; 6656] = [9; 6656];
-    let long: [u16; 6657] = [9; 6657];
+    let longest: [u16; Probe::MAX_LIST] = [9; Probe::MAX_LIST];
+    let long: [u16; Probe::MAX_LIST + 1] = [9; Probe::MAX_LIST + 1];
     show::ran(probe::run(file, &plan));
     show::ran(probe::run(file, &unmet));
     show::ran(probe::run(file, &blocked));

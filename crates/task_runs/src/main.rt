@@ -1,5 +1,6 @@
 // Runs the known cases about tasks (document 01) with the code itself; what it writes is compared with the file stdout.
 use taskfile::Costed;
+use taskfile::Task;
 
 fn main() {
     let p =
@@ -20,8 +21,8 @@ fn main() {
     let once: [u16; 1] = [0];
     let none: [u16; 0] = [];
     let missing: [u16; 1] = [1];
-    let longest: [u16; 256] = [0; 256];
-    let long: [u16; 257] = [0; 257];
+    let longest: [u16; Task::MAX_LIST] = [0; Task::MAX_LIST];
+    let long: [u16; Task::MAX_LIST + 1] = [0; Task::MAX_LIST + 1];
     show::ran(task::run(p, &once));
     show::ran(task::run(p, &none));
     show::ran(task::run(p, &missing));

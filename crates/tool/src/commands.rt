@@ -20,14 +20,12 @@ use facts::Ran;
 use probefile::Probe;
 use report::Subject;
 use taskfile::Costed;
-
-// The most bytes that a written probe file has.
-const WRITTEN: usize = 13846;
+use taskfile::Task;
 
 // One entry more than the longest list, one of steps, and than a state may have.
 const LIST: usize = Probe::MAX_LIST + 1;
 
-const STATE: usize = Probe::MAX_VARIABLES as usize + 1;
+const STATE: usize = Probe::MAX_VARIABLES + 1;
 
 // What is asked of a state, or of sets: an action's cost, or an estimate.
 pub enum Question {
@@ -56,7 +54,7 @@ pub fn is_accepted(answer: Checked, explain: bool) -> bool {
 
 // `compile TASK PROBE`: the probe file of a task.
 pub fn compile(file: &[u8], next: usize, explain: bool) {
-    let mut out = [0; WRITTEN];
+    let mut out = [0; Task::MAX_WRITTEN];
     match compile::compile(file, &mut out) {
         Compiled::Length(length) => {
             let n = within(length, &out);

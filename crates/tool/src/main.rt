@@ -16,9 +16,10 @@ use crate::input::read_file;
 use crate::input::read_number;
 use crate::output::failed;
 use crate::output::usage;
+use probefile::Probe;
 
 // One byte more than the longest file has that is accepted, a probe file.
-const FILE: usize = 76215;
+const FILE: usize = Probe::MAX_BYTES + 1;
 
 fn main() {
     if is_word(2, b"--explain") {
