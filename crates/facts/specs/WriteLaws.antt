@@ -7,7 +7,8 @@ use lib.ListN.{length, take, drop, length-append, length-drop, drop-of-length-le
 use lib.Seq.{take-all, take-at, drop-at, drop-drop, take-length, drop-length}
 use borrow.Author.Tests.{le-leb, lt-leb}
 use borrow.Rule.Slice.PartMut.{putMid}
-use Rattle.facts.specs.Write.{over, fitting, Wrote}
+use Rattle.facts.specs.Read.{Read, accepted, refused, _>>=_}
+use Rattle.facts.specs.Write.{over, fitting, lengthIn, writtenIn, Wrote}
 
 pub fitting-all : (bytes out : List ℕ) → length bytes ≤ length out → fitting bytes out ≡ bytes
 unfolding fitting
@@ -61,3 +62,22 @@ module _ {bytes before now : List ℕ} {at : ℕ} (w : Wrote bytes before now at
 
   pub wrote-then : {more last : List ℕ} {n : ℕ} → Wrote more (take (length now - at) (drop at now)) last n → Wrote (bytes ++ more) before (putMid at (length now - at) now last) (at + n)
   wrote-then {more} v = record { count = rw (w .count, v .count, length-append bytes more); buffer = over-then more (v .buffer) }
+
+-- ---- the answer and the buffer of an operation
+
+module _ {result : Read (List ℕ)} where
+  -- a refusal writes nothing
+  pub refused-in : (out : List ℕ) {n p : ℕ} → result ≡ refused n p → (refused n p ≡ lengthIn (length out) result) × (out ≡ writtenIn out result)
+  unfolding lengthIn writtenIn
+  refused-in out h = (rw h, rw (h, writtenIn))
+
+  module _ {list : List ℕ} (h : result ≡ accepted list) where
+    -- nor does a buffer that is too short
+    pub short-in : (out : List ℕ) {needed : ℕ} → needed ≡ length list → length out < needed → (refused 7 needed ≡ lengthIn (length out) result) × (out ≡ writtenIn out result)
+    unfolding lengthIn writtenIn over
+    short-in out e l = let m : length out < length list = omega arith in (rw (h, lt-leb (length list) (length out) m, e), rw (h, writtenIn, fitting-none list out m))
+
+    -- else the result is written, and its length is the answer
+    pub wrote-in : {out now : List ℕ} {n : ℕ} → length list ≤ length out → Wrote list out now n → (accepted n ≡ lengthIn (length out) result) × (now ≡ writtenIn out result)
+    unfolding lengthIn writtenIn
+    wrote-in {out} l w = (rw (h, le-leb (length list) (length out) l, w .count), rw (h, writtenIn, fitting-all list out l, w .buffer))

@@ -6,5 +6,6 @@ pub mod Seek
 pub mod SeekLaws
 pub mod StepsLaws
 pub mod CostLaws
+pub mod LengthLaws
 -- The examples, computed.
 pub mod Examples

@@ -2,33 +2,31 @@
 use Prim.Native.Nat.{ℕ, zero, suc, _+_, _/_, _%_, _≤_, _<_, min}
 use mathlib.Core.Path.{_≡_, refl, sym, ap, subst, _∙_}
 use mathlib.Core.Bool.{Bool, true, false}
-use mathlib.Core.List.{List, [], _∷_, _++_, append-nil, append-assoc}
+use mathlib.Core.List.{List, [], _∷_, _++_, append-assoc}
 use native.Mathlib.Omega.{arith}
 use native.Mathlib.Numerals.{add-one}
 use lib.Dec.{ltb}
-use lib.ListN.{length, take, drop, set, getD, length-append, length-set, drop-of-length-le}
-use lib.Seq.{drop-cons, set-at, take-nil}
+use lib.ListN.{length, drop, set, getD, length-append, length-set, drop-of-length-le}
+use lib.Seq.{drop-cons, set-at}
 use borrow.Author.Tests.{lt-ltb, le-ltb, ltb-true, ltb-false}
-use Rattle.facts.specs.Write.{over}
+use Rattle.facts.specs.Write.{over, Wrote}
 use Rattle.text.specs.Text.{decimal, endOf, endAt, eachText, listText}
-use Rattle.text.specs.Append.{next, put, past, Adds}
+use Rattle.text.specs.Append.{largest, next, put, past, Adds}
 use Rattle.text.specs.PrintLaws.{decimal-one, decimal-more}
 
 -- ---- one part and then another
 
 put-length : (bs : List ℕ) (at : ℕ) (out : List ℕ) → length (put bs at out) ≡ length out
 put-length [] at out = refl
-put-length (b ∷ bs) at out = put-length bs (next (length out) at) (set out at b) ∙ length-set out at b
+put-length (b ∷ bs) at out = put-length bs (next at) (set out at b) ∙ length-set out at b
 
-put-then : (xs ys : List ℕ) (at : ℕ) (out : List ℕ) → put (xs ++ ys) at out ≡ put ys (past xs at (length out)) (put xs at out)
+put-then : (xs ys : List ℕ) (at : ℕ) (out : List ℕ) → put (xs ++ ys) at out ≡ put ys (past xs at) (put xs at out)
 put-then [] ys at out = refl
-put-then (x ∷ xs) ys at out =
-    put-then xs ys (next (length out) at) (set out at x)
-    ∙ ap (λ (room : ℕ). put ys (past xs (next (length out) at) room) (put xs (next (length out) at) (set out at x))) (length-set out at x)
+put-then (x ∷ xs) ys at out = put-then xs ys (next at) (set out at x)
 
-past-then : (xs ys : List ℕ) (at room : ℕ) → past (xs ++ ys) at room ≡ past ys (past xs at room) room
-past-then [] ys at room = refl
-past-then (x ∷ xs) ys at room = past-then xs ys (next room at) room
+past-then : (xs ys : List ℕ) (at : ℕ) → past (xs ++ ys) at ≡ past ys (past xs at)
+past-then [] ys at = refl
+past-then (x ∷ xs) ys at = past-then xs ys (next at)
 
 module _ {xs before now : List ℕ} {at k : ℕ} (v : Adds xs before now at k) where
   -- the buffer's length stays
@@ -38,7 +36,7 @@ module _ {xs before now : List ℕ} {at k : ℕ} (v : Adds xs before now at k) w
   pub adds-then : {ys last : List ℕ} {end : ℕ} → Adds ys now last k end → Adds (xs ++ ys) before last at end
   adds-then {ys} {last} {end} w = record {
     buffer = w .buffer ∙ ap (put ys k) (v .buffer) ∙ ap (λ (j : ℕ). put ys j (put xs at before)) (v .place) ∙ sym (put-then xs ys at before);
-    place = w .place ∙ ap (past ys k) adds-long ∙ ap (λ (j : ℕ). past ys j (length before)) (v .place) ∙ sym (past-then xs ys at (length before));
+    place = w .place ∙ ap (past ys) (v .place) ∙ sym (past-then xs ys at);
   }
 
 -- the same text in other words
@@ -50,25 +48,25 @@ adds-none out at = record { buffer = refl; place = refl }
 
 -- ---- a byte
 
-next-within : (room at : ℕ) → at < room → at + 1 ≡ next room at
+pub next-on : (at : ℕ) → at < largest → at + 1 ≡ next at
 unfolding next
-next-within room at l = rw (lt-ltb at room l, next)
+next-on at l = omega arith
 
-next-full : (room at : ℕ) → room ≤ at → at ≡ next room at
+pub next-stays : (at : ℕ) → at ≡ largest → at ≡ next at
 unfolding next
-next-full room at l = rw (le-ltb at room l, next)
+next-stays at e = omega arith
 
 set-full : (out : List ℕ) (at b : ℕ) → length out ≤ at → out ≡ set out at b
 set-full [] at b l = refl
 set-full (x ∷ out) zero b l = absurd (omega arith)
 set-full (x ∷ out) (suc at) b l = ap (λ (z : List ℕ). x ∷ z) (set-full out at b (omega arith))
 
-module _ (b at : ℕ) (out : List ℕ) where
-  pub adds-byte : at < length out → Adds (b ∷ []) out (set out at b) at (at + 1)
-  adds-byte l = record { buffer = refl; place = next-within (length out) at l }
+module _ (b at : ℕ) (out : List ℕ) {end : ℕ} (e : end ≡ next at) where
+  pub adds-byte : Adds (b ∷ []) out (set out at b) at end
+  adds-byte = record { buffer = refl; place = e }
 
-  pub adds-full : length out ≤ at → Adds (b ∷ []) out out at at
-  adds-full l = record { buffer = set-full out at b l; place = next-full (length out) at l }
+  pub adds-full : length out ≤ at → Adds (b ∷ []) out out at end
+  adds-full l = record { buffer = set-full out at b l; place = e }
 
 -- ---- a row of parts: what is left of it, and that adding it adds the whole
 
@@ -143,36 +141,30 @@ unfolding listText
 some-numbers [] e = absurd (e refl)
 some-numbers (x ∷ xs) e = refl
 
--- ---- from the front on: the text stands there, cut to the buffer's length
+-- ---- from the front on
 
-put-full : (xs : List ℕ) (at : ℕ) (out : List ℕ) → length out ≤ at → put xs at out ≡ out
-put-full [] at out l = refl
-put-full (x ∷ xs) at out l =
-    ap (λ (k : ℕ). put xs k (set out at x)) (sym (next-full (length out) at l)) ∙ ap (put xs at) (sym (set-full out at x l)) ∙ put-full xs at out l
-
-put-after : (xs done rest : List ℕ) → put xs (length done) (done ++ rest) ≡ done ++ over (take (length rest) xs) rest
+-- what has room stands there
+put-after : (xs done rest : List ℕ) → length xs ≤ length rest → length done + length xs ≤ largest → put xs (length done) (done ++ rest) ≡ done ++ over xs rest
 unfolding over
-put-after [] done rest = rw (take-nil (length rest))
-put-after (x ∷ xs) done [] = rw (append-nil done) (put-full (x ∷ xs) (length done) done (omega arith))
-put-after (x ∷ xs) done (r ∷ rest) =
-    let long : length done + 1 ≡ length (done ++ (x ∷ [])) = sym (length-append done (x ∷ [])) in
-    let inside : length done < length (done ++ (r ∷ rest)) = subst (λ (k : ℕ). length done < k) (sym (length-append done (r ∷ rest))) (omega arith) in
-    ap (λ (k : ℕ). put xs k (set (done ++ (r ∷ rest)) (length done) x)) (sym (next-within (length (done ++ (r ∷ rest))) (length done) inside) ∙ long)
+put-after [] done rest l m = refl
+put-after (x ∷ xs) done [] l m = absurd (omega arith)
+put-after (x ∷ xs) done (r ∷ rest) l m =
+    let long : length (done ++ (x ∷ [])) ≡ length done + 1 = length-append done (x ∷ []) in
+    ap (λ (k : ℕ). put xs k (set (done ++ (r ∷ rest)) (length done) x)) (sym (next-on (length done) (omega arith)) ∙ sym long)
     ∙ ap (put xs (length (done ++ (x ∷ [])))) (set-at done r rest x (length done) refl ∙ sym (append-assoc done (x ∷ []) rest))
-    ∙ put-after xs (done ++ (x ∷ [])) rest
-    ∙ append-assoc done (x ∷ []) (over (take (length rest) xs) rest)
+    ∙ put-after xs (done ++ (x ∷ [])) rest (omega arith) (omega (arith, long))
+    ∙ append-assoc done (x ∷ []) (over xs rest)
 
-pub adds-front : {text out now : List ℕ} {end : ℕ} → Adds text out now 0 end → now ≡ over (take (length out) text) out
-adds-front {text} {out} v = v .buffer ∙ put-after text [] out
+-- the index counts every byte, up to the largest
+past-counts : (bs : List ℕ) (at : ℕ) → at ≤ largest → past bs at ≡ min (at + length bs) largest
+unfolding next
+past-counts [] at l = omega arith
+past-counts (b ∷ bs) at l = past-counts bs (next at) (omega arith) ∙ omega arith
 
-past-within : (bs : List ℕ) (at room : ℕ) → at ≤ room → past bs at room ≡ min (at + length bs) room
-past-within [] at room l = omega arith
-past-within (b ∷ bs) at room l = go (ltb at room) refl (past-within bs)
-  where
-    go : (t : Bool) → ltb at room ≡ t → ((at room : ℕ) → at ≤ room → past bs at room ≡ min (at + length bs) room) → past bs (next room at) room ≡ min (at + suc (length bs)) room
-    go true t on = let m = ltb-true at room t in ap (λ (k : ℕ). past bs k room) (sym (next-within room at m)) ∙ on (at + 1) room (omega arith) ∙ omega arith
-    go false t on = let m = ltb-false at room t in ap (λ (k : ℕ). past bs k room) (sym (next-full room at m)) ∙ on at room l ∙ omega arith
+-- and is the text's length in a buffer of any length
+pub adds-end : {text out now : List ℕ} {end : ℕ} → length text ≤ largest → Adds text out now 0 end → end ≡ length text
+adds-end {text} l v = v .place ∙ past-counts text 0 (omega arith) ∙ omega arith
 
--- and the index past it is the text's length, or the buffer's
-pub adds-end : {text out now : List ℕ} {end : ℕ} → Adds text out now 0 end → end ≡ min (length text) (length out)
-adds-end {text} {out} v = v .place ∙ past-within text 0 (length out) (omega arith) ∙ omega arith
+-- where there is room the text stands at the front
+pub adds-wrote : {text out now : List ℕ} {end : ℕ} → length text ≤ largest → length text ≤ length out → Adds text out now 0 end → Wrote text out now end
+adds-wrote {text} {out} few l v = record { count = adds-end few v; buffer = v .buffer ∙ put-after text [] out l (omega arith) }

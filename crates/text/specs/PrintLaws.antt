@@ -1,12 +1,14 @@
 -- Laws of printing: what is printed reads back as itself.
-use Prim.Native.Nat.{ℕ, zero, suc, _+_, _-_, _*_, _/_, _%_, _≤_, _<_}
-use mathlib.Core.Path.{_≡_, refl, sym, ap, _∙_}
+use Prim.Native.Nat.{ℕ, zero, suc, _+_, _-_, _*_, _/_, _%_, _^_, _≤_, _<_}
+use mathlib.Core.Path.{_≡_, refl, sym, ap, ap₂, _∙_}
 use mathlib.Core.Bool.{Bool, true, false}
 use mathlib.Core.List.{List, [], _∷_, _++_, append-assoc}
 use native.Mathlib.Omega.{arith}
+use native.Mathlib.Nat.{pow-suc}
 use lib.Dec.{ltb}
 use lib.ListN.{length, length-append}
 use borrow.Author.Tests.{le-leb, le-ltb, lt-ltb, ltb-true, ltb-false}
+use Rattle.facts.specs.Lists.{All}
 use Rattle.text.specs.Text.{parsed, withParsed, between, within, Place, soFar, began, blank, digit, numbersFrom, numbersOf, decimalIn, decimal, endOf, eachText, listText}
 
 -- ---- the digits
@@ -94,3 +96,64 @@ pub round-trip : (most : ℕ) (xs : List ℕ) → AllMost most xs → numbersOf 
 unfolding numbersOf listText digit blank
 round-trip most [] h = refl
 round-trip most (x ∷ xs) h = read-each most 0 (x ∷ xs) h
+
+-- ---- no two numbers have the same digits
+
+pub decimal-same : (a b : ℕ) → decimal a ≡ decimal b → a ≡ b
+unfolding listText
+decimal-same a b e =
+    let reads : parsed (a ∷ []) ≡ parsed (b ∷ []) =
+    sym (round-trip (a + b) (a ∷ []) (omega arith, tt)) ∙ ap (λ (ds : List ℕ). numbersOf (a + b) (ds ++ 10 ∷ [])) e ∙ round-trip (a + b) (b ∷ []) (omega arith, tt) in
+    cc
+
+-- digits are below 58
+below-then : (ds : List ℕ) {d : ℕ} → All (λ d. d < 58) ds → d < 58 → All (λ d. d < 58) (ds ++ d ∷ [])
+below-then [] h l = (l, tt)
+below-then (x ∷ ds) h l = (h .0, below-then ds (h .1) l)
+
+digits-below : (k n : ℕ) → n ≤ k → All (λ d. d < 58) (decimalIn k n)
+digits-below zero n l = (omega arith, tt)
+digits-below (suc k) n l = go (ltb n 10) refl (digits-below k (n / 10) (omega arith))
+  where
+    go : (t : Bool) → ltb n 10 ≡ t → All (λ d. d < 58) (decimalIn k (n / 10)) → All (λ d. d < 58) (decimalIn (suc k) n)
+    go true t h = rw (t, decimalIn) (omega (arith, ltb-true n 10 t), tt)
+    go false t h = rw (t, decimalIn) (below-then (decimalIn k (n / 10)) h (omega arith))
+
+-- what is before a byte that none of them is
+before-same : (stop : ℕ) → 58 ≤ stop → (xs ys us vs : List ℕ) → All (λ d. d < 58) xs → All (λ d. d < 58) ys → xs ++ (stop ∷ us) ≡ ys ++ (stop ∷ vs) → (xs ≡ ys) × (us ≡ vs)
+before-same stop l [] [] us vs g h e = (refl, cc)
+before-same stop l [] (y ∷ ys) us vs g h e = let same : stop ≡ y = cc in absurd (omega (arith, h .0))
+before-same stop l (x ∷ xs) [] us vs g h e = let same : x ≡ stop = cc in absurd (omega (arith, g .0))
+before-same stop l (x ∷ xs) (y ∷ ys) us vs g h e =
+    let head : x ≡ y = cc in
+    let (same, rest) = before-same stop l xs ys us vs (g .1) (h .1) cc in
+    (ap₂ (λ (d : ℕ) (ds : List ℕ). d ∷ ds) head same, rest)
+
+-- so a number that such a byte ends is told from every other
+pub decimal-then : (stop : ℕ) → 58 ≤ stop → (a b : ℕ) (us vs : List ℕ) → decimal a ++ (stop ∷ us) ≡ decimal b ++ (stop ∷ vs) → (a ≡ b) × (us ≡ vs)
+unfolding decimal
+decimal-then stop l a b us vs e =
+    let (same, rest) = before-same stop l (decimalIn a a) (decimalIn b b) us vs (digits-below a a (omega arith)) (digits-below b b (omega arith)) e in
+    (decimal-same a b same, rest)
+
+-- ---- how long it is
+
+-- a number below 10 ^ k has at most k digits
+pub digits-most : (k n : ℕ) → n < 10 ^ suc k → length (decimal n) ≤ suc k
+digits-most zero n l = omega (arith, length-one n l)
+digits-most (suc k) n l = go (ltb n 10) refl (digits-most k (n / 10))
+  where
+    go : (t : Bool) → ltb n 10 ≡ t → (n / 10 < 10 ^ suc k → length (decimal (n / 10)) ≤ suc k) → length (decimal n) ≤ suc (suc k)
+    go true t tenth = omega (arith, length-one n (ltb-true n 10 t))
+    go false t tenth = omega (arith, length-more n (ltb-false n 10 t), tenth (omega (arith, pow-suc 10 (suc k))))
+
+-- numbers of two bytes have at most five digits each, and a byte after them
+pub each-most : (xs : List ℕ) → AllMost 65535 xs → length (eachText xs) ≤ 6 * length xs
+each-most [] h = omega arith
+each-most (x ∷ xs) (m, h) = omega (arith, length-append (decimal x) (endOf xs ∷ eachText xs), digits-most 4 x (omega arith), each-most xs h)
+
+-- a list of at most 6,657 entries, one more than the longest, has at most 65,536 bytes
+pub list-most : (xs : List ℕ) → AllMost 65535 xs → length xs ≤ 6657 → length (listText xs) ≤ 65536
+unfolding listText
+list-most [] h l = omega arith
+list-most (x ∷ xs) h l = omega (arith, each-most (x ∷ xs) h)

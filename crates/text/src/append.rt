@@ -1,17 +1,27 @@
-// Text written from an index of a buffer on, as much as there is room for: bytes, numbers and lists of them.
+// Text written from an index of a buffer on: bytes, numbers and lists of them. A byte is written where there is room for it and counted in any case, so a writer tells how long its text is in a buffer of any length.
 ghost use mathlib.Core.Path.{_≡_};
 ghost use mathlib.Core.List.{[], _∷_};
 ghost use Rattle.text.specs.Text.{decimal, endAt, listText};
-ghost use Rattle.text.specs.Append.{Adds};
+ghost use Rattle.text.specs.Append.{next, Adds};
 
 // A byte; the index past it.
 pub fn append_byte(out: &mut [u8], at: usize, byte: u8) -> usize
     ensures { λ r. ⌜ Adds (byte ∷ []) (now (out .entry)) (now (out .exit)) at r ⌝ }
 {
     if out.len() <= at {
-        return at;
+        return next(at);
     }
     out[at] = byte;
+    next(at)
+}
+
+// The next index; the largest stays.
+fn next(at: usize) -> usize
+    ensures { λ r. ⌜ r ≡ next at ⌝ }
+{
+    if at == usize::MAX {
+        return at;
+    }
     at + 1
 }
 

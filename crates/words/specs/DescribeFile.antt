@@ -1,9 +1,7 @@
--- The operations: a task file described in a lent buffer.
-use Prim.Native.Nat.{ℕ, min}
+-- The operations: what they write about a task file, as `lengthIn` and `writtenIn` (crate `facts`) say for every operation that writes.
+use Prim.Native.Nat.{ℕ}
 use mathlib.Core.List.{List, [], _∷_}
-use lib.ListN.{length, take}
-use Rattle.facts.specs.Read.{Read, accepted, refused, withValue, _>>=_}
-use Rattle.facts.specs.Write.{over}
+use Rattle.facts.specs.Read.{Read, accepted, withValue, _>>=_}
 use Rattle.taskfile.specs.Task.{Task}
 use Rattle.taskfile.specs.TaskFile.{readTask, actionOf}
 use Rattle.words.specs.Show.{taskText}
@@ -25,11 +23,3 @@ module _ (f : List ℕ) where
     t ← readTask f
     x ← actionOf (t .actions) a
     accepted (dotText a (x ∷ []))
-
--- how much of a text is written into a buffer with so much room, and what the buffer then is: the text is cut where the room ends, and a refusal changes nothing
-unfoldable pub lengthIn : ℕ → Read (List ℕ) → Read ℕ
-lengthIn room answer = withValue (λ (text : List ℕ). min (length text) room) answer
-
-unfoldable pub textIn : List ℕ → Read (List ℕ) → List ℕ
-textIn out (accepted text) = over (take (length out) text) out
-textIn out (refused number place) = out

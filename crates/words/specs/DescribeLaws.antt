@@ -7,6 +7,8 @@ use native.Mathlib.Omega.{arith}
 use lib.ListN.{length, getD, take, drop, getElem?}
 use Rattle.facts.specs.Read.{Read, accepted, refused}
 use Rattle.facts.specs.ReadLaws.{not-made}
+use Rattle.facts.specs.Write.{lengthIn, writtenIn}
+use Rattle.facts.specs.WriteLaws.{short-in, wrote-in}
 use Rattle.facts.specs.ListLaws.{look}
 use Rattle.facts.specs.Partial.{partialAt}
 use Rattle.taskfile.specs.Task.{Action, Task}
@@ -16,15 +18,15 @@ use Rattle.taskfile.specs.AnswerLaws.{there, starts, sizes-there}
 use Rattle.taskfile.specs.PartsInPlace.{actionsIn}
 use Rattle.taskfile.specs.PartsInPlaceLaws.{at-some, action-here, actions-in-place}
 use Rattle.compilation.specs.Compile.{flat}
-use Rattle.text.specs.Append.{bytes, Adds}
-use Rattle.text.specs.AppendLaws.{adds-front, adds-end}
+use Rattle.text.specs.Append.{bytes, largest, Adds}
+use Rattle.text.specs.AppendLaws.{adds-end, adds-wrote}
 use Rattle.words.specs.Words.{partialText}
 use Rattle.words.specs.Show.{variableText, actionText, taskText}
 use Rattle.words.specs.Dot.{dotAction}
 use Rattle.words.specs.DotLaws.{drawing-text, row-one}
-use Rattle.words.specs.Rows.{rowFrom, actionFor, drawing}
+use Rattle.words.specs.Rows.{rowFrom, actionFor, showing, drawing}
 use Rattle.words.specs.RowLaws.{actions-row, list-row}
-use Rattle.words.specs.DescribeFile.{shown, drawn, drawnAction, lengthIn, textIn}
+use Rattle.words.specs.DescribeFile.{shown, drawn, drawnAction}
 
 -- There is no element past the last.
 pub look-none : {A : Type 0} (xs : List A) (k : ℕ) → length xs ≤ k → getElem? xs k ≡ none
@@ -34,16 +36,18 @@ look-none (x ∷ xs) (suc k) l = look-none xs k (omega arith)
 
 -- ---- answers
 
--- A refusal writes nothing.
-pub refused-in : {answer : Read (List ℕ)} {n p : ℕ} (out : List ℕ) → answer ≡ refused n p → (refused n p ≡ lengthIn (length out) answer) × (out ≡ textIn out answer)
-unfolding lengthIn textIn
-refused-in out e = (rw e, rw (e, textIn))
+-- The same answer for a result in other words.
+pub answered-as : {whole result : Read (List ℕ)} {answer : Read ℕ} {now : List ℕ} (out : List ℕ) → whole ≡ result → (answer ≡ lengthIn (length out) result) × (now ≡ writtenIn out result)
+    → (answer ≡ lengthIn (length out) whole) × (now ≡ writtenIn out whole)
+answered-as out e h = (h .0 ∙ ap (lengthIn (length out)) (sym e), h .1 ∙ ap (writtenIn out) (sym e))
 
--- A text is written from the front on, and how much of it is the answer.
-pub written-in : {answer : Read (List ℕ)} {text out now : List ℕ} {end : ℕ} → answer ≡ accepted text → Adds text out now 0 end
-    → (accepted end ≡ lengthIn (length out) answer) × (now ≡ textIn out answer)
-unfolding lengthIn textIn
-written-in e v = (rw e (ap accepted (adds-end v)), rw (e, textIn) (adds-front v))
+-- A text is counted in a buffer of any length, and then written if there is room.
+module _ {result : Read (List ℕ)} {text none after : List ℕ} {needed : ℕ} (h : result ≡ accepted text) (few : length text ≤ largest) (count : Adds text none after 0 needed) where
+  pub counted-short : (out : List ℕ) → length out < needed → (refused 7 needed ≡ lengthIn (length out) result) × (out ≡ writtenIn out result)
+  counted-short out l = short-in h out (adds-end few count) l
+
+  pub counted-wrote : {out now : List ℕ} {end : ℕ} → needed ≤ length out → Adds text out now 0 end → (accepted end ≡ lengthIn (length out) result) × (now ≡ writtenIn out result)
+  counted-wrote {out} l v = let room : length text ≤ length out = omega (arith, adds-end few count) in wrote-in h room (adds-wrote few room v)
 
 module _ (f : List ℕ) where
   -- The file's refusal, for each operation.
@@ -78,17 +82,12 @@ module _ (f : List ℕ) where
     goal-in : partialAt f (1 + n + n) ≡ t .goal
     goal-in = let same : 1 + n + n ≡ 1 + 2 * n = omega arith in ap (partialAt f) same ∙ starts f ready .goal
 
-    -- The whole task.
-    pub shown-is : shown f ≡ accepted (taskText t)
-    unfolding shown
-    shown-is = rw (there f ready .reads)
-
     -- The texts of the actions in place are those of the task's.
     pub actions-text : {X : Type 0} (text : ℕ → Action → List X) {sizes : List ℕ} → sizes ≡ t .sizes → rowFrom (λ a. text a (actionFor f sizes row a)) 0 count ≡ flat text 0 (t .actions)
     actions-text text {sizes} e = sym (actions-row f text sizes row 0 count) ∙ ap (flat text 0) (ap (λ (ds : List ℕ). actionsIn f ds row 0 count) e ∙ actions-in-place f ready)
 
     -- What is written, one part after the other, is the task's text.
-    pub task-text : {sizes init : List ℕ} → sizes ≡ t .sizes → init ≡ t .init
+    task-text : {sizes init : List ℕ} → sizes ≡ t .sizes → init ≡ t .init
         → rowFrom (λ v. variableText v (getD sizes v 0) (getD init v 0)) 0 (length sizes)
         ++ (bytes "goal:" ++ (partialText (length sizes) (partialAt f (1 + n + n)) ++ (bytes "\n" ++ rowFrom (λ a. actionText (length sizes) a (actionFor f sizes row a)) 0 count)))
         ≡ taskText t
@@ -97,6 +96,15 @@ module _ (f : List ℕ) where
         let names : rowFrom (λ v. variableText v (getD sizes v 0) (getD init v 0)) 0 (length sizes) ≡ flat (λ v size. variableText v size (getD (t .init) v 0)) 0 (t .sizes) =
         rw (s, h) (sym (list-row (λ v size. variableText v size (getD (t .init) v 0)) (t .sizes) (t .sizes) 0 (λ k j l e. let same : j ≡ k = omega arith in rw same))) in
         rw (names, goal-in, actions-text (actionText (length sizes)) s, s)
+
+    showing-text : showing f n count row ≡ taskText t
+    unfolding showing
+    showing-text = task-text sizes-in init-in
+
+    -- The whole task.
+    pub shown-is : shown f ≡ accepted (showing f n count row)
+    unfolding shown
+    shown-is = rw (there f ready .reads) (ap accepted (sym showing-text))
 
     -- the text of an action's diagram
     abbrev diagram : ℕ → List ℕ

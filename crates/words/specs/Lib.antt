@@ -11,5 +11,6 @@ pub mod WordLaws
 pub mod ShowLaws
 pub mod DotLaws
 pub mod DescribeLaws
+pub mod LengthLaws
 -- The examples, computed.
 pub mod Examples

@@ -3,7 +3,8 @@ use mathlib.Core.Path.{sym, ap, _∙_}
 use denote.Ref.{now}
 use Rattle.taskfile.specs.Answers.{countedAnswer}
 use Rattle.taskfile.specs.TaskIndexLaws.{index-ready, index-refused}
-use Rattle.words.specs.DescribeLaws.{shown-refused, refused-in}
+use Rattle.facts.specs.WriteLaws.{refused-in}
+use Rattle.words.specs.DescribeLaws.{shown-refused}
 use borrow.Author.Needs.{needs}
 use native.Mathlib.Omega.{arith}
 use Rattle.describe.proofs.show.Statement.{statement}

@@ -1,7 +1,8 @@
--- `describe::show_in` meets its contract: the parts in place, one after the other, are the task's text. Assumes nothing.
+-- `describe::show_in` meets its contract: the text is counted, and then written if there is room. Assumes nothing.
 use denote.Ref.{now}
-use Rattle.text.specs.AppendLaws.{adds-then, adds-as}
-use Rattle.words.specs.DescribeLaws.{head-fits, sizes-in, init-in, shown-is, task-text, written-in}
+use Rattle.facts.specs.BytesLaws.{bytes-each}
+use Rattle.words.specs.DescribeLaws.{shown-is, counted-short, counted-wrote}
+use Rattle.words.specs.LengthLaws.{shown-most}
 use borrow.Author.Needs.{needs}
 use native.Mathlib.Omega.{arith}
 use Rattle.describe.proofs.show_in.Statement.{statement}
@@ -9,29 +10,23 @@ use Rattle.describe.proofs.show_in.Tie as tie
 
 returns : tie.Need-returns
 returns c =
-    let s = c .before .before .before .before .before .before .before .before .before .before .before .before .before .before .before .before .before .before .before .before .before .before .before .before .before .before .before in
-    let f = now (s .args .file) in
-    written-in (shown-is f (s .pre)) (adds-as (task-text f (s .pre) (sizes-in f (s .pre)) (init-in f (s .pre)))
-    (adds-then (c .before .before .before .before .before .before .before .before .before .before .before .before .before .before .before .before .before .before .before .before .put-variables .ensures) (adds-then (c .before .before .before .before .before .before .before .before .before .before .before .before .before .before .before .append .ensures) (adds-then (c .before .before .before .before .before .before .before .before .before .before .before .put-partial .ensures) (adds-then (c .before .before .before .before .before .before .append2 .ensures) (c .before .before .put-actions .ensures))))))
+    let f = now (c .before .before .before .before .before .before .before .args .file) in
+    let is = shown-is f (c .before .before .before .before .before .before .before .pre) in
+    counted-short is (omega (arith, shown-most f (bytes-each f (λ i. c .before .before .before .before .before .before .shared-slice-known .given i .fits)) is)) (c .before .before .put-task .ensures) (now (c .before .before .before .before .before .before .before .args .out)) (c .if1 .taken)
+
+returns-2 : tie.Need-returns-2
+returns-2 c =
+    let f = now (c .before .before .before .before .before .before .before .before .before .before .before .args .file) in
+    let is = shown-is f (c .before .before .before .before .before .before .before .before .before .before .before .pre) in
+    counted-wrote is (omega (arith, shown-most f (bytes-each f (λ i. c .before .before .before .before .before .before .before .before .before .before .shared-slice-known .given i .fits)) is)) (c .before .before .before .before .before .before .put-task .ensures) (c .before .before .before .before .if1 .left) (c .before .before .put-task2 .ensures)
 
 pub show-in-spec : {M : Type 1} → statement M
 show-in-spec =
     tie.close
     (tie.spec
-    (λ c. omega (arith, head-fits _ (c .before .before .before .pre)))
-    (λ c. omega (arith, head-fits _ (c .before .before .before .pre)))
     (λ c. search needs)
+    (λ c κs. c .before .before .before .before .pre)
+    returns
+    (λ c κs. c .before .before .before .before .before .before .before .before .pre)
     (λ c. search needs)
-    (λ c. omega (arith, head-fits _ (c .before .before .before .pre)))
-    (λ c. search needs)
-    (λ c. search needs)
-    (λ c. omega (arith, head-fits _ (c .before .before .before .before .before .pre)))
-    (λ c κs. search needs)
-    (λ c. search needs)
-    (λ c κs. search needs)
-    (λ c κs. search needs)
-    (λ c. search needs)
-    (λ c κs. search needs)
-    (λ c κs. search needs)
-    (λ c. search needs)
-    returns)
+    returns-2)

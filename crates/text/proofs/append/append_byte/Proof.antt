@@ -8,8 +8,9 @@ pub append-byte-spec : {M : Type 1} → statement M
 append-byte-spec =
     tie.close
     (tie.spec
-    (λ c. adds-full _ _ _ (c .if1 .taken))
+    (λ c κs. search needs)
+    (λ c. adds-full _ _ _ (c .next .ensures) (c .before .if1 .taken))
     (λ c. search needs)
+    (λ c κs. search needs)
     (λ c. search needs)
-    (λ c. search needs)
-    (λ c. adds-byte _ _ _ (c .if1 .left)))
+    (λ c. adds-byte _ _ _ (c .next2 .ensures)))
