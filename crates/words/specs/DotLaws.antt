@@ -3,12 +3,14 @@ use Prim.Native.Nat.{ℕ, suc, _+_, _-_}
 use mathlib.Core.Path.{_≡_, sym, ap, ap₂, subst, _∙_}
 use mathlib.Core.List.{List, [], _++_}
 use native.Mathlib.Omega.{arith}
-use lib.ListN.{length}
+use lib.ListN.{length, drop}
 use Rattle.taskfile.specs.Task.{Edge, Action}
 use Rattle.taskfile.specs.PartsInPlace.{nodesIn}
 use Rattle.taskfile.specs.PartsInPlaceLaws.{nodes-long}
 use Rattle.compilation.specs.Compile.{flat}
+use Rattle.text.specs.Text.{decimal}
 use Rattle.text.specs.Append.{bytes, Adds}
+use Rattle.text.specs.PrintLaws.{decimal-same, decimal-then}
 use Rattle.text.specs.AppendLaws.{adds-as}
 use Rattle.words.specs.Dot.{nodeName, dotEdge, dotNode, dotAction, dotText}
 use Rattle.words.specs.Rows.{rowFrom, AddsTwo, nodeFor}
@@ -41,3 +43,11 @@ drawing-text a xs e = ap (λ (r : List ℕ). bytes "digraph costs {\n" ++ (r ++ 
 -- A row of one.
 pub row-one : (text : ℕ → List ℕ) (a : ℕ) → rowFrom text a (a + 1 - a) ≡ text a ++ []
 row-one text a = let e : a + 1 - a ≡ 1 = omega arith in ap (rowFrom text a) e
+
+-- ---- names
+
+-- No two nodes have the same name.
+pub name-same : (a i b j : ℕ) → nodeName a i ≡ nodeName b j → (a ≡ b) × (i ≡ j)
+name-same a i b j e =
+    let (action, rest) = decimal-then 110 (omega arith) a b (decimal i) (decimal j) (ap (drop 1) e) in
+    (action, decimal-same i j rest)
