@@ -6,5 +6,7 @@ pub mod StartLaws
 pub mod SameSumLaws
 -- Demand 3 over files, and plans carried across and back.
 pub mod SameSum
+-- Demand 1 over every operation that is lent a buffer: a refusal writes nothing.
+pub mod Untouched
 -- Laws of what a buffer makes of an answer.
 pub mod AnswerLaws
