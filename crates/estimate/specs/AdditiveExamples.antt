@@ -27,6 +27,11 @@ both=1 = facts 3 (1 ∷ 1 ∷ [])
 abbrev step : Partial → Partial → ℕ → Achiever
 step pre eff cost = record { pre = pre; eff = eff; cost = λ of. exact cost }
 
+-- a fact that two preconditions share is counted for each: C = 1 costs 5, and A = 1 and B = 1 need it
+shared-twice : additive (2 ∷ 2 ∷ 2 ∷ []) (step (facts 4 (1 ∷ [])) A=1 0 ∷ step (facts 4 (1 ∷ [])) B=1 0 ∷ step empty (facts 4 (1 ∷ [])) 5 ∷ []) both=1 (0 ∷ 0 ∷ 0 ∷ []) ≡ exact 10
+unfolding additive lastNumbers additiveRound settled
+shared-twice = refl
+
 -- A is set at 2, or at 0 where B is 1; B is set at 1: document 01's case with fixed costs
 abbrev set-A-dear : Achiever
 set-A-dear = step (facts 2 (0 ∷ [])) A=1 2
@@ -75,11 +80,6 @@ small-cases =
 small-estimates : map (λ c. additive (2 ∷ 2 ∷ []) (c .achievers) (c .goal) (0 ∷ 0 ∷ [])) small-cases ≡ map (λ c. c .number) small-cases
 unfolding additive lastNumbers additiveRound settled
 small-estimates = refl
-
--- a fact that two preconditions share is counted for each: C = 1 costs 5, and A = 1 and B = 1 need it
-shared-twice : additive (2 ∷ 2 ∷ 2 ∷ []) (step (facts 4 (1 ∷ [])) A=1 0 ∷ step (facts 4 (1 ∷ [])) B=1 0 ∷ step empty (facts 4 (1 ∷ [])) 5 ∷ []) both=1 (0 ∷ 0 ∷ 0 ∷ []) ≡ exact 10
-unfolding additive lastNumbers additiveRound settled
-shared-twice = refl
 
 -- a round uses old numbers alone: after one, B = 1 has a number and A = 1, which needs it, is still never; after the next it has one
 first-round : additiveRound (2 ∷ 2 ∷ []) (set-B ∷ set-A-free ∷ []) (exact 0 ∷ never ∷ exact 0 ∷ never ∷ []) ≡ exact 0 ∷ never ∷ exact 0 ∷ exact 1 ∷ []

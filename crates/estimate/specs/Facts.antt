@@ -23,10 +23,19 @@ mostFacts = 3762
 abbrev pub factIndex : ℕ → ℕ → ℕ
 factIndex v d = v * mostValues + d
 
+-- the number that stands there; never past the end
+abbrev pub numberIn : List Est → ℕ → ℕ → Number
+numberIn numbers v d = number (getD numbers (factIndex v d) Never)
+
 -- the array has the number `of v d` for the fact that variable v has the value d
 pub record HasNumbers (numbers : List Est) (of : ℕ → ℕ → Number) : Type 0 where
   pub count : length numbers ≡ mostFacts
-  pub at : (v d : ℕ) → v < mostVariables → d < mostValues → number (getD numbers (factIndex v d) Never) ≡ of v d
+  pub at : (v d : ℕ) → v < mostVariables → d < mostValues → numberIn numbers v d ≡ of v d
+
+-- it has it for each fact of a file with these domain sizes
+pub record HasFacts (sizes : List ℕ) (numbers : List Est) (of : ℕ → ℕ → Number) : Type 0 where
+  pub count : length numbers ≡ mostFacts
+  pub at : (v d : ℕ) → d < getD sizes v 0 → numberIn numbers v d ≡ of v d
 
 -- the number with which the estimate from a state starts: "0 where the state has" the fact that variable v has the value d, "else never"
 abbrev pub startNumber : List ℕ → ℕ → ℕ → Number

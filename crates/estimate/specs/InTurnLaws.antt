@@ -10,9 +10,10 @@ use lib.ListN.{length, getD}
 use Rattle.facts.specs.Lists.{All}
 use Rattle.facts.specs.Partial.{Partial}
 use Rattle.facts.specs.WellFormed.{WfPartial}
+use Rattle.estimate.specs.declared.Est.{Est}
 use Rattle.estimate.specs.Number.{Number, never, sum, lesser, AtMost}
 use Rattle.estimate.specs.NumberLaws.{lesser-comm, at-most-refl, at-most-trans, at-most-antisym, lesser-at-most, lesser-least}
-use Rattle.estimate.specs.Facts.{startNumber}
+use Rattle.estimate.specs.Facts.{numberIn, HasFacts, startNumber}
 use Rattle.estimate.specs.Rounds.{Leads, stay, go-on}
 use Rattle.estimate.specs.RoundsLaws.{settled-leads, settled-fixed}
 use Rattle.estimate.specs.Additive.{factCount, listed, factNumber, sumFrom, Offer, offeredBy, offered, Achiever, offerOf, offersBy, WfAchiever, additiveRound, startNumbers, lastNumbers, additive}
@@ -229,11 +230,13 @@ module _ (sizes : List ℕ) (achievers : List Achiever) (s : List ℕ) (wf : All
         subst (λ (mid : List ℕ). All (Closed sizes (rankNumber mid)) others) same (closed-some t (or-right x y (is ∙ e)) (room-kept f roomy)),
       )
 
-  -- the end: the numbers are the last ones, and the goal facts' sum is the estimate
-  pub nearing-end : {ranks later : List ℕ} {fell : Bool} {goal : Partial} → Roomy sizes (length ranks) → Nearing sizes achievers s (rankNumber ranks) → InTurn (length sizes) achievers ranks later fell
-      → fell ≡ false → WfPartial sizes goal → sumFrom (rankNumber later) 0 (length sizes) goal ≡ additive sizes achievers goal s
-  nearing-end {ranks} {goal = goal} roomy g t e w =
+  -- the end: the numbers are the last ones, and the goal facts' sum by the array into which they are put back is the estimate
+  pub nearing-end : {ranks later : List ℕ} {fell : Bool} {numbers : List Est} {goal : Partial} → Roomy sizes (length ranks) → Nearing sizes achievers s (rankNumber ranks)
+      → InTurn (length sizes) achievers ranks later fell → fell ≡ false → HasFacts sizes numbers (rankNumber later) → WfPartial sizes goal
+      → sumFrom (numberIn numbers) 0 (length sizes) goal ≡ additive sizes achievers goal s
+  nearing-end {ranks} {later} {numbers = numbers} {goal} roomy g t e h w =
       let still = turn-fell t .same e in
-      ap (λ (ranks : List ℕ). sumFrom (rankNumber ranks) 0 (length sizes) goal) still
+      facts-sum-same w (numberIn numbers) (rankNumber later) (h .at) (length sizes)
+      ∙ ap (λ (ranks : List ℕ). sumFrom (rankNumber ranks) 0 (length sizes) goal) still
       ∙ facts-sum-same w (rankNumber ranks) (lastNumber sizes achievers s) (closed-last sizes achievers s wf supported g (closed-some t e roomy)) (length sizes)
       ∙ sym (additive-sum sizes achievers goal s refl)

@@ -15,6 +15,7 @@ pub mod RoundsLaws
 pub mod ListedLaws
 pub mod AdditiveLaws
 pub mod RanksLaws
+pub mod PutBackLaws
 pub mod OfferLaws
 pub mod InsideLaws
 pub mod FallLaws

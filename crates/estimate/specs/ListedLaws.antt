@@ -17,12 +17,6 @@ use Rattle.estimate.specs.Number.{Number, never, sum, WithinCap}
 use Rattle.estimate.specs.NumberLaws.{sum-within}
 use Rattle.estimate.specs.Additive.{factCount, listedFrom, listed, factNumber, hasValue, has, withNumber, sumFrom}
 
--- only variables have values
-pub fact-variable : (sizes : List ℕ) (v d : ℕ) → d < getD sizes v 0 → v < length sizes
-fact-variable [] v d l = absurd (omega arith)
-fact-variable (n ∷ sizes) zero d l = omega arith
-fact-variable (n ∷ sizes) (suc v) d l = omega (arith, fact-variable sizes v d l)
-
 -- ---- the list
 
 -- the numbers of one variable
@@ -124,14 +118,10 @@ has-fact {sizes} {p} w v d e = has-inside sizes p (w .map-below) (w .values) v d
 
 -- ---- sums of the numbers of facts
 
--- each fact's number is added, whatever the others come to
-with-number-adds : (of : ℕ → ℕ → Number) (v b x : ℕ) (values : List ℕ) (others : Number) → withNumber of v (suc b) (x ∷ values) others ≡ sum (of v x) others
-with-number-adds of v b x values others = refl
-
 with-number-within : (of : ℕ → ℕ → Number) (v b : ℕ) (values : List ℕ) (others : Number) → WithinCap others → WithinCap (withNumber of v b values others)
 with-number-within of v zero values others h = h
 with-number-within of v (suc b) [] others h = h
-with-number-within of v (suc b) (x ∷ values) others h = rw (with-number-adds of v b x values others) (sum-within (of v x) others)
+with-number-within of v (suc b) (x ∷ values) others h = sum-within (of v x) others
 
 -- they are within the cap, whatever the numbers are
 pub sum-from-within : (of : ℕ → ℕ → Number) (v k : ℕ) (p : Partial) → WithinCap (sumFrom of v k p)

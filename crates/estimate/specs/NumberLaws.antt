@@ -268,9 +268,3 @@ module _ {a b : Number} {x y : ℕ} (p : a ≡ exact x) (q : b ≡ exact y) wher
 
   pub sum-over : largest < x + y → over ≡ sum a b
   sum-over h = sym (ap₂ sum p q ∙ capped-over (x + y) h)
-
-  pub lesser-first : x ≤ y → exact x ≡ lesser a b
-  lesser-first h = let e : x ≡ min x y = omega arith in ap exact e ∙ sym (ap₂ lesser p q)
-
-  pub lesser-second : y ≤ x → exact y ≡ lesser a b
-  lesser-second h = let e : y ≡ min x y = omega arith in ap exact e ∙ sym (ap₂ lesser p q)

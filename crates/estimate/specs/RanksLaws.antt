@@ -17,10 +17,15 @@ use Rattle.estimate.specs.Number.{Number, exact, never, lesser, rank, ra
 use Rattle.estimate.specs.NumberLaws.{lesser-comm, lesser-never, lesser-zero, ranked-min, ranked-never}
 use Rattle.estimate.specs.Facts.{mostVariables, mostValues, factIndex, startNumber}
 use Rattle.estimate.specs.FactsLaws.{start-here, start-other, start-below}
-use Rattle.estimate.specs.ListedLaws.{fact-variable}
 use Rattle.estimate.specs.Ranks.{rankNumber, Room, Roomy, HasRanks, Fresh, startedOver, Fell, offeredTo, afterFact}
 
 -- ---- room
+
+-- only variables have values
+pub fact-variable : (sizes : List ℕ) (v d : ℕ) → d < getD sizes v 0 → v < length sizes
+fact-variable [] v d l = absurd (omega arith)
+fact-variable (n ∷ sizes) zero d l = omega arith
+fact-variable (n ∷ sizes) (suc v) d l = omega (arith, fact-variable sizes v d l)
 
 sizes-at : (most : ℕ) (sizes : List ℕ) → All (λ n. (2 ≤ n) × (n ≤ most)) sizes → (v : ℕ) → getD sizes v 0 ≤ most
 sizes-at most [] h v = omega arith

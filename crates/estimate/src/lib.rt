@@ -2,11 +2,13 @@
 pub mod ranks;
 
 use crate::ranks::rank;
+use crate::ranks::ranked;
 use facts::Refusal;
 ghost use mathlib.Core.Path.{_≡_};
-ghost use Rattle.estimate.specs.Number.{number, sum, lesser};
-ghost use Rattle.estimate.specs.Facts.{HasNumbers, startNumber};
-ghost use Rattle.estimate.specs.Ranks.{rankNumber, HasRanks, startedOver};
+ghost use lib.ListN.{length};
+ghost use Rattle.estimate.specs.Number.{number, sum};
+ghost use Rattle.estimate.specs.Facts.{HasNumbers, HasFacts, startNumber};
+ghost use Rattle.estimate.specs.Ranks.{rankNumber, Roomy, HasRanks, startedOver};
 
 // A number of the estimate. Never is first, for the first case is what a definition reads past the end of an array.
 pub enum Est {
@@ -49,25 +51,6 @@ pub fn sum(a: Est, b: Est) -> Est
     }
 }
 
-// The lesser of two numbers.
-pub fn lesser(a: Est, b: Est) -> Est
-    ensures { λ r. ⌜ number r ≡ lesser (number a) (number b) ⌝ }
-{
-    match a {
-        Est::Never => b,
-        Est::Over => match b {
-            Est::Never => a,
-            Est::Over => a,
-            Est::Exact(_) => b,
-        },
-        Est::Exact(x) => match b {
-            Est::Never => a,
-            Est::Over => a,
-            Est::Exact(y) => { if y < x { b } else { a } }
-        },
-    }
-}
-
 // The array of facts has room for so many variables, for so many values of each, and for so many facts.
 pub const VARIABLES: usize = 57;
 
@@ -98,4 +81,25 @@ pub fn start(state: &[u8], ranks: &mut [u64]) -> [Est; 3762]
         ranks[i] = rank(numbers[i]);
     }
     numbers
+}
+
+// The same array with the last numbers put back into it: that of each fact of the file, variable by variable and value by value, from its rank.
+pub fn put_back(numbers: [Est; 3762], sizes: &[u8], ranks: &[u64]) -> [Est; 3762]
+    requires { ⌜ Roomy (now sizes) (length (now ranks)) ⌝ }
+    ensures { λ r. ⌜ HasFacts (now (sizes .entry)) r (rankNumber (now (ranks .entry))) ⌝ }
+{
+    let mut last = numbers;
+    let mut v = 0;
+    let mut d = 0;
+    while v < sizes.len() {
+        if sizes[v] as usize <= d {
+            v += 1;
+            d = 0;
+            continue;
+        }
+        let place = v * VALUES + d;
+        last[place] = ranked(ranks[place]);
+        d += 1;
+    }
+    last
 }

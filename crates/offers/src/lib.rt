@@ -5,6 +5,8 @@ use crate::inside::fact_lowered;
 use crate::inside::inside;
 use crate::inside::lower_inside;
 use crate::inside::sum_inside;
+use estimate::Est;
+use estimate::FACTS;
 use estimate::VALUES;
 use estimate::VARIABLES;
 use estimate::ranks::NEVER;
@@ -16,7 +18,8 @@ ghost use Prim.Native.Nat.{_+_, _≤_};
 ghost use lib.Count.{ones};
 ghost use lib.ListN.{length};
 ghost use Rattle.facts.specs.Partial.{standingAt, partialAt, pastPartial};
-ghost use Rattle.estimate.specs.Number.{ranked};
+ghost use Rattle.estimate.specs.Number.{number, ranked};
+ghost use Rattle.estimate.specs.Facts.{numberIn};
 ghost use Rattle.estimate.specs.Additive.{sumFrom};
 ghost use Rattle.estimate.specs.Ranks.{rankNumber, SumEnds, HasRanks, Fell, afterOffer, afterFact};
 
@@ -77,6 +80,36 @@ fn values_sum(file: &[u8], at: usize, map: u64, n: usize, ranks: &[u64]) -> Summ
         end += 1;
     }
     Summed { rank: total, end }
+}
+
+// The goal facts' sum, by the array of facts: of the partial state at an offset, for n variables.
+pub fn goal_sum(file: &[u8], at: usize, n: usize, numbers: [Est; 3762]) -> Est
+    ensures { λ r. ⌜ number r ≡ sumFrom (numberIn numbers) 0 n (partialAt (now (file .entry)) at) ⌝ }
+{
+    let mut total = Est::Exact(0);
+    let Field::Value(map) = facts::number::read_map(file, at) else {
+        return total;
+    };
+    let mut end = at + 8;
+    let mut rest = map;
+    while rest != 0 {
+        let bit = partial::lowest_bit(rest);
+        let v = bit.zeros;
+        if n <= v {
+            return total;
+        }
+        if file.len() <= end {
+            return total;
+        }
+        let i = v * VALUES + file[end] as usize;
+        if FACTS <= i {
+            return Est::Never;
+        }
+        total = estimate::sum(total, numbers[i]);
+        rest = rest & (rest - 1);
+        end += 1;
+    }
+    total
 }
 
 // Offers a number, by its rank, to each fact of the partial state at an offset, which then has the lesser of its own and the offer; whether a rank fell.

@@ -50,7 +50,7 @@ pub fn settle(file: &[u8], sizes: &[u8], goal: usize, offsets: &[usize], state: 
     settle_in(file, sizes, goal, offsets, state, &mut ranks)
 }
 
-// The same in fresh ranks: offers from the start until no rank falls, and then the goal facts' sum.
+// The same in fresh ranks, to which the numbers of the start are lent: offers until no rank falls; then the last numbers are put back into their array, and the goal facts' sum is taken from it.
 fn settle_in(
     file: &[u8],
     sizes: &[u8],
@@ -62,13 +62,13 @@ fn settle_in(
     requires { ⌜ Ready (now file) (now sizes) goal (now offsets) × Roomy (now sizes) (length (now ranks)) × Fresh (now ranks) ⌝ }
     ensures { λ r. ⌜ number r ≡ additive (now (sizes .entry)) (map (achieverAt (now (file .entry))) (now (offsets .entry))) (partialAt (now (file .entry)) goal) (now (state .entry)) ⌝ }
 {
-    estimate::start(state, ranks);
+    let numbers = estimate::start(state, ranks);
     loop {
         if offer_steps(file, offsets, sizes.len(), ranks) {
             continue;
         }
-        let sum = offers::sum_at(file, goal, sizes.len(), ranks);
-        return estimate::ranks::ranked(sum.rank);
+        let last = estimate::put_back(numbers, sizes, ranks);
+        return offers::goal_sum(file, goal, sizes.len(), last);
     }
 }
 

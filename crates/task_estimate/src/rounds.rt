@@ -2,7 +2,6 @@
 use estimate::Est;
 use estimate::ranks::NEVER;
 use estimate::ranks::UNSET;
-use estimate::ranks::ranked;
 use estimate::ranks::sum_rank;
 use price::least_from;
 use walk::diagram_past;
@@ -69,7 +68,7 @@ fn settle_more(
     settle_in(file, sizes, goal, count, row, state, &mut ranks)
 }
 
-// The same in fresh ranks: offers from the start until no rank falls, and then the goal facts' sum.
+// The same in fresh ranks, to which the numbers of the start are lent: offers until no rank falls; then the last numbers are put back into their array, and the goal facts' sum is taken from it.
 fn settle_in(
     file: &[u8],
     sizes: &[u8],
@@ -82,13 +81,13 @@ fn settle_in(
     requires { ⌜ Estimable (now file) (now sizes) goal count (now row) × Roomy (now sizes) (length (now ranks)) × Fresh (now ranks) ⌝ }
     ensures { λ r. ⌜ number r ≡ additive (now (sizes .entry)) (achieversIn (now (file .entry)) (now (sizes .entry)) (now (row .entry)) 0 count) (partialAt (now (file .entry)) goal) (now (state .entry)) ⌝ }
 {
-    estimate::start(state, ranks);
+    let numbers = estimate::start(state, ranks);
     loop {
         if offer_actions(file, sizes, count, row, ranks) {
             continue;
         }
-        let sum = offers::sum_at(file, goal, sizes.len(), ranks);
-        return ranked(sum.rank);
+        let last = estimate::put_back(numbers, sizes, ranks);
+        return offers::goal_sum(file, goal, sizes.len(), last);
     }
 }
 

@@ -1,5 +1,5 @@
 -- `probe_estimate::rounds::settle_in` meets its contract: the numbers are on the way from the start to the last round's, each turn in which a rank falls lowers the
--- sum of all ranks, and one in which none falls leaves the last numbers. Assumes nothing.
+-- sum of all ranks, and one in which none falls leaves the last numbers, which are put back. Assumes nothing.
 use mathlib.Core.Path.{_≡_, refl, _∙_}
 use mathlib.Core.List.{map}
 use lib.ListN.{length}
@@ -16,10 +16,10 @@ use Rattle.probe_estimate.proofs.rounds.settle_in.Statement.{statement}
 use Rattle.probe_estimate.proofs.rounds.settle_in.Tie as tie
 
 abbrev Inv-loop : tie.InvT-loop
-Inv-loop file sizes goal offsets state ranks₀ ranks = (length ranks ≡ length ranks₀) × Nearing sizes (map (achieverAt file) offsets) state (rankNumber ranks)
+Inv-loop file sizes goal offsets state ranks₀ numbers ranks = (length ranks ≡ length ranks₀) × Nearing sizes (map (achieverAt file) offsets) state (rankNumber ranks)
 
 abbrev μ-loop : tie.MeasureT-loop
-μ-loop file sizes goal offsets state ranks₀ ranks = total (λ r. r) ranks
+μ-loop file sizes goal offsets state ranks₀ numbers ranks = total (λ r. r) ranks
 
 loop-holds : tie.Need-loop-holds Inv-loop μ-loop
 loop-holds c =
@@ -32,29 +32,22 @@ loop-less c = turn-fell (c .before .before .before .offer-steps .ensures) .less 
 
 loop-again : tie.Need-loop-again Inv-loop μ-loop
 loop-again c =
-    let turn = c .before .before .before in
-    let l = turn .before .before .loop in
-    let s = turn .before .before .before .before .before .before .before .before .before .before .before .before in
+    let s = c .before .before .before .before .before .before .before .before .before .before .before .before .before .before .before in
     let a = s .args in
-    let t = turn .offer-steps .ensures in
-    (turn-fell t .count ∙ l .inv .0, nearing-on _ _ _ (s .pre .0 .steps) (steps-supported (now (a .file)) (now (a .offsets))) (roomy-same (s .pre .1) (l .inv .0 ∙ turn .before .before .before .before .ranks .given)) (l .inv .1) t)
+    let l = c .before .before .before .before .before .loop in
+    let t = c .before .before .before .offer-steps .ensures in
+    (turn-fell t .count ∙ l .inv .0, nearing-on _ _ _ (s .pre .0 .steps) (steps-supported (now (a .file)) (now (a .offsets))) (roomy-same (s .pre .1) (l .inv .0 ∙ c .before .before .before .before .before .before .before .ranks .given)) (l .inv .1) t)
 
-same-length : tie.Need-same-length Inv-loop μ-loop
-same-length c =
-    let turn = c .before .before .before .before .before .before in
-    turn-fell (turn .offer-steps .ensures) .count ∙ turn .before .before .loop .inv .0 ∙ turn .before .before .before .before .ranks .given
+put-back-requires : tie.Need-put-back-requires Inv-loop μ-loop
+put-back-requires c κs = roomy-same (c .before .before .before .before .before .before .before .before .before .before .before .before .before .before .before .before .pre .1) (turn-fell (c .before .before .before .before .offer-steps .ensures) .count ∙ c .before .before .before .before .before .before .loop .inv .0 ∙ c .before .before .before .before .before .before .before .before .ranks .given)
 
 returns : tie.Need-returns Inv-loop μ-loop
 returns c =
-    let told = c .before .before .before in
-    let turn = told .before .before .before in
-    let l = turn .before .before .loop in
-    let s = turn .before .before .before .before .before .before .before .before .before .before .before .before in
+    let s = c .before .before .before .before .before .before .before .before .before .before .before .before .before .before .before .before .before .before in
     let a = s .args in
-    let t = turn .offer-steps .ensures in
-    c .ranked .ensures
-    ∙ c .before .sum-at .ensures .0
-    ∙ nearing-end _ _ _ (s .pre .0 .steps) (steps-supported (now (a .file)) (now (a .offsets))) (roomy-same (s .pre .1) (l .inv .0 ∙ turn .before .before .before .before .ranks .given)) (l .inv .1) t (told .if1 .left) (s .pre .0 .goal-is)
+    let l = c .before .before .before .before .before .before .before .before .loop in
+    c .goal-sum .ensures
+    ∙ nearing-end _ _ _ (s .pre .0 .steps) (steps-supported (now (a .file)) (now (a .offsets))) (roomy-same (s .pre .1) (l .inv .0 ∙ c .before .before .before .before .before .before .before .before .before .before .ranks .given)) (l .inv .1) (c .before .before .before .before .before .before .offer-steps .ensures) (c .before .before .before .if1 .left) (c .before .put-back .ensures) (s .pre .0 .goal-is)
 
 pub settle-in-spec : {M : Type 1} → statement M
 settle-in-spec =
@@ -67,7 +60,7 @@ settle-in-spec =
     (λ c κs. c .before .before .before .before .before .before .before .before .before .before .before .pre .0 .costs)
     loop-less
     loop-again
+    put-back-requires
     (λ c κs. search needs)
-    (λ c κs. search needs)
-    same-length
+    (λ c. turn-fell (c .before .before .before .before .before .before .offer-steps .ensures) .count ∙ c .before .before .before .before .before .before .before .before .loop .inv .0 ∙ c .before .before .before .before .before .before .before .before .before .before .ranks .given)
     returns)

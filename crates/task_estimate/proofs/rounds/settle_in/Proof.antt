@@ -1,5 +1,5 @@
 -- `task_estimate::rounds::settle_in` meets its contract: the numbers are on the way from the start to the last round's, each turn in which a rank falls lowers the
--- sum of all ranks, and one in which none falls leaves the last numbers. Assumes nothing.
+-- sum of all ranks, and one in which none falls leaves the last numbers, which are put back. Assumes nothing.
 use mathlib.Core.Path.{_≡_, refl, _∙_}
 use lib.ListN.{length}
 use denote.Ref.{now}
@@ -15,10 +15,10 @@ use Rattle.task_estimate.proofs.rounds.settle_in.Statement.{statement}
 use Rattle.task_estimate.proofs.rounds.settle_in.Tie as tie
 
 abbrev Inv-loop : tie.InvT-loop
-Inv-loop file sizes goal count row state ranks₀ ranks = (length ranks ≡ length ranks₀) × Nearing sizes (achieversIn file sizes row 0 count) state (rankNumber ranks)
+Inv-loop file sizes goal count row state ranks₀ numbers ranks = (length ranks ≡ length ranks₀) × Nearing sizes (achieversIn file sizes row 0 count) state (rankNumber ranks)
 
 abbrev μ-loop : tie.MeasureT-loop
-μ-loop file sizes goal count row state ranks₀ ranks = total (λ r. r) ranks
+μ-loop file sizes goal count row state ranks₀ numbers ranks = total (λ r. r) ranks
 
 loop-holds : tie.Need-loop-holds Inv-loop μ-loop
 loop-holds c =
@@ -37,18 +37,16 @@ loop-again c =
     let t = c .before .before .before .offer-actions .ensures in
     (turn-fell t .count ∙ l .inv .0, nearing-on _ _ _ (achievers-wf (s .pre .0)) (actions-supported (now (a .file)) (now (a .sizes)) (now (a .row)) (a .count)) (roomy-same (s .pre .1) (l .inv .0 ∙ c .before .before .before .before .before .before .before .ranks .given)) (l .inv .1) t)
 
-same-length : tie.Need-same-length Inv-loop μ-loop
-same-length c = turn-fell (c .before .before .before .before .before .before .offer-actions .ensures) .count ∙ c .before .before .before .before .before .before .before .before .loop .inv .0 ∙ c .before .before .before .before .before .before .before .before .before .before .ranks .given
+put-back-requires : tie.Need-put-back-requires Inv-loop μ-loop
+put-back-requires c κs = roomy-same (c .before .before .before .before .before .before .before .before .before .before .before .before .before .before .before .before .pre .1) (turn-fell (c .before .before .before .before .offer-actions .ensures) .count ∙ c .before .before .before .before .before .before .loop .inv .0 ∙ c .before .before .before .before .before .before .before .before .ranks .given)
 
 returns : tie.Need-returns Inv-loop μ-loop
 returns c =
     let s = c .before .before .before .before .before .before .before .before .before .before .before .before .before .before .before .before .before .before in
     let a = s .args in
     let l = c .before .before .before .before .before .before .before .before .loop in
-    let t = c .before .before .before .before .before .before .offer-actions .ensures in
-    c .ranked .ensures
-    ∙ c .before .sum-at .ensures .0
-    ∙ nearing-end _ _ _ (achievers-wf (s .pre .0)) (actions-supported (now (a .file)) (now (a .sizes)) (now (a .row)) (a .count)) (roomy-same (s .pre .1) (l .inv .0 ∙ c .before .before .before .before .before .before .before .before .before .before .ranks .given)) (l .inv .1) t (c .before .before .before .if1 .left) (s .pre .0 .goal-is)
+    c .goal-sum .ensures
+    ∙ nearing-end _ _ _ (achievers-wf (s .pre .0)) (actions-supported (now (a .file)) (now (a .sizes)) (now (a .row)) (a .count)) (roomy-same (s .pre .1) (l .inv .0 ∙ c .before .before .before .before .before .before .before .before .before .before .ranks .given)) (l .inv .1) (c .before .before .before .before .before .before .offer-actions .ensures) (c .before .before .before .if1 .left) (c .before .put-back .ensures) (s .pre .0 .goal-is)
 
 pub settle-in-spec : {M : Type 1} → statement M
 settle-in-spec =
@@ -61,7 +59,7 @@ settle-in-spec =
     (λ c κs. let e = c .before .before .before .before .before .before .before .before .before .before .before .pre .0 in (e .long, e .action))
     loop-less
     loop-again
+    put-back-requires
     (λ c κs. search needs)
-    (λ c κs. search needs)
-    same-length
+    (λ c. turn-fell (c .before .before .before .before .before .before .offer-actions .ensures) .count ∙ c .before .before .before .before .before .before .before .before .loop .inv .0 ∙ c .before .before .before .before .before .before .before .before .before .before .ranks .given)
     returns)
