@@ -1,6 +1,6 @@
 -- Laws of packing: what each C function returns, unpacked, is the answer of its operation, for every file, list, state and buffer: number, place, length, sum and estimate
--- fit their bits. So no two different answers are packed alike (`apart`), a refusal's number is not 0, and success's is. Document 01: "A refusal returns number and
--- place alone, with no sum or length"; "Success .. returns its length"; "A run returns its sum."
+-- fit their bits. So no two different answers are packed alike (`apart`), a refusal's number is not 0, and success's is. Demand 1: nothing handed in ever makes the tool
+-- "wrap a sum. No refusal .. returns more than its number and place." Document 01: "Success .. returns its length"; "A run returns its sum."
 use mathlib.Core.Path.{_≡_, refl, sym, ap, ap₂, _∙_}
 use mathlib.Core.Logic.{inl, inr}
 use Prim.Native.Nat.{ℕ, zero, suc, _≤_, _<_}
@@ -52,6 +52,10 @@ module _ (number upper lower : ℕ) where
 
   pub sum-of : lower < 4294967296 → sumOf (packed number upper lower) ≡ lower
   sum-of l = omega arith
+
+-- "A refusal returns number and place alone, with no sum or length."
+pub refusal-alone : (n p : ℕ) → lengthOf (packedRefusal n p) ≡ 0
+refusal-alone n p = length-of n 0 p (omega arith)
 
 -- ---- answers
 
