@@ -11,7 +11,7 @@ use Rattle.estimate.specs.Additive.{estimateFile}
 use Rattle.taskfile.specs.Task.{Task}
 use Rattle.taskfile.specs.TaskFile.{readTask, checkTask, costTask, runTask}
 use Rattle.probefile.specs.ProbeFile.{readProbe, checkProbe, runProbe}
-use Rattle.probefile.specs.Estimate.{probeEstimate, estimateProbe}
+use Rattle.probe_estimate.specs.Estimate.{probeEstimate, estimateProbe}
 use Rattle.relaxation.specs.RelaxedTask.{relaxedTask}
 use Rattle.relaxation.specs.Estimate.{estimate}
 use Rattle.relaxation.specs.EstimateTask.{estimateTask}

@@ -30,7 +30,7 @@ use Rattle.probefile.specs.Probe.{maxList as maxProbeList, perform as performSt
 use Rattle.probefile.specs.ProbeFile.{readProbe, checkProbe, writeProbe, runProbe}
 use Rattle.probefile.specs.ProbeLaws.{probe-wf}
 use Rattle.probefile.specs.Probe.{maxBytes as maxProbeBytes}
-use Rattle.probefile.specs.Estimate.{stepAchiever, probeEstimate, estimateProbe}
+use Rattle.probe_estimate.specs.Estimate.{stepAchiever, probeEstimate, estimateProbe}
 use Rattle.relaxation.specs.Least.{leastOf, prefixed, states}
 use Rattle.relaxation.specs.Relaxed.{valuesIn, RelaxedInside, relaxedCost}
 use Rattle.relaxation.specs.RelaxedLaws.{set-below}

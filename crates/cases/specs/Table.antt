@@ -15,7 +15,7 @@ use Rattle.taskfile.specs.Task.{Task}
 use Rattle.taskfile.specs.TaskFile.{readTask, checkTask, costTask, runTask}
 use Rattle.probefile.specs.Probe.{Probe, ProbePlan}
 use Rattle.probefile.specs.ProbeFile.{readProbe, checkProbe, writeProbe, runProbe}
-use Rattle.probefile.specs.Estimate.{probeEstimate, estimateProbe}
+use Rattle.probe_estimate.specs.Estimate.{probeEstimate, estimateProbe}
 use Rattle.relaxation.specs.Estimate.{estimate}
 use Rattle.relaxation.specs.EstimateTask.{estimateTask}
 use Rattle.relaxation.specs.RelaxedTask.{relaxedTask}

@@ -5,19 +5,20 @@ use mathlib.Core.Bool.{true, false}
 use mathlib.Core.List.{List, [], _∷_}
 use lib.Dec.{eqb}
 use lib.ListN.{length, getD}
+use Rattle.probefile.specs.Probe.{maxVariables, maxValues}
 use Rattle.estimate.specs.declared.Est.{Est}
 use Rattle.estimate.specs.declared.Est.the-variants.{Never}
 use Rattle.estimate.specs.Number.{Number, exact, never, number}
 
--- the array has room for so many variables, for so many values of each, and for so many facts
+-- the array has room for so many variables, for so many values of each, and for so many facts: those of a probe file, 3,762
 abbrev pub mostVariables : ℕ
-mostVariables = 57
+mostVariables = maxVariables
 
 abbrev pub mostValues : ℕ
-mostValues = 66
+mostValues = maxValues
 
 abbrev pub mostFacts : ℕ
-mostFacts = 3762
+mostFacts = mostVariables * mostValues
 
 -- where the number of the fact stands that variable v has the value d: "variable times 66 plus value"
 abbrev pub factIndex : ℕ → ℕ → ℕ

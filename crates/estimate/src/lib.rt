@@ -4,6 +4,7 @@ pub mod ranks;
 use crate::ranks::rank;
 use crate::ranks::ranked;
 use facts::Refusal;
+use probefile::Probe;
 ghost use mathlib.Core.Path.{_≡_};
 ghost use lib.ListN.{length};
 ghost use Rattle.estimate.specs.Number.{number, sum};
@@ -51,29 +52,22 @@ pub fn sum(a: Est, b: Est) -> Est
     }
 }
 
-// The array of facts has room for so many variables, for so many values of each, and for so many facts.
-pub const VARIABLES: usize = 57;
-
-pub const VALUES: usize = 66;
-
-pub const FACTS: usize = 3762;
-
 // The numbers with which the estimate from a state starts, at variable times 66 plus value: 0 for the facts of the state, else never. Past 57
 // variables and past 66 values nothing is set. Each number that is set lowers the rank at its index, so that ranks that are never's have the same numbers.
-pub fn start(state: &[u8], ranks: &mut [u64]) -> [Est; 3762]
+pub fn start(state: &[u8], ranks: &mut [u64]) -> [Est; Probe::FACTS]
     ensures { λ r. ⌜ HasNumbers r (startNumber (now (state .entry))) ⌝ }
     ensures { λ r. ⌜ HasRanks (now (ranks .exit)) (startedOver (rankNumber (now (ranks .entry))) (now (state .entry))) ⌝ }
 {
-    let mut numbers = [Est::Never; 3762];
-    for v in 0..VARIABLES {
+    let mut numbers = [Est::Never; Probe::FACTS];
+    for v in 0..Probe::MAX_VARIABLES {
         if state.len() <= v {
             return numbers;
         }
         let d = state[v] as usize;
-        if VALUES <= d {
+        if Probe::MAX_VALUES <= d {
             continue;
         }
-        let i = v * VALUES + d;
+        let i = v * Probe::MAX_VALUES + d;
         numbers[i] = Est::Exact(0);
         if ranks.len() <= i {
             continue;
@@ -84,7 +78,7 @@ pub fn start(state: &[u8], ranks: &mut [u64]) -> [Est; 3762]
 }
 
 // The same array with the last numbers put back into it: that of each fact of the file, variable by variable and value by value, from its rank.
-pub fn put_back(numbers: [Est; 3762], sizes: &[u8], ranks: &[u64]) -> [Est; 3762]
+pub fn put_back(numbers: [Est; Probe::FACTS], sizes: &[u8], ranks: &[u64]) -> [Est; Probe::FACTS]
     requires { ⌜ Roomy (now sizes) (length (now ranks)) ⌝ }
     ensures { λ r. ⌜ HasFacts (now (sizes .entry)) r (rankNumber (now (ranks .entry))) ⌝ }
 {
@@ -97,7 +91,7 @@ pub fn put_back(numbers: [Est; 3762], sizes: &[u8], ranks: &[u64]) -> [Est; 3762
             d = 0;
             continue;
         }
-        let place = v * VALUES + d;
+        let place = v * Probe::MAX_VALUES + d;
         last[place] = ranked(ranks[place]);
         d += 1;
     }

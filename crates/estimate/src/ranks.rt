@@ -2,8 +2,7 @@
 // the array of `start`. Past the end of a slice nothing is read or set.
 use crate::Est;
 use crate::LARGEST;
-use crate::VALUES;
-use crate::VARIABLES;
+use probefile::Probe;
 ghost use mathlib.Core.Path.{_≡_};
 ghost use Prim.Native.Nat.{min};
 ghost use Rattle.estimate.specs.Number.{number, sum, ranked};
@@ -65,13 +64,13 @@ pub fn sum_rank(a: u64, b: u64) -> u64
 pub fn rank_of(ranks: &[u64], v: usize, d: usize) -> u64
     ensures { λ r. ⌜ ranked r ≡ rankNumber (now (ranks .entry)) v d ⌝ }
 {
-    if VARIABLES <= v {
+    if Probe::MAX_VARIABLES <= v {
         return NEVER;
     }
-    if VALUES <= d {
+    if Probe::MAX_VALUES <= d {
         return NEVER;
     }
-    let i = v * VALUES + d;
+    let i = v * Probe::MAX_VALUES + d;
     if ranks.len() <= i {
         return NEVER;
     }

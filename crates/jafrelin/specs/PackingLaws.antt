@@ -11,7 +11,7 @@ use Rattle.facts.specs.Bytes.{Bytes}
 use Rattle.estimate.specs.Number.{Number, exact, over, never, WithinCap}
 use Rattle.taskfile.specs.TaskFile.{checkTask, costTask, runTask}
 use Rattle.probefile.specs.ProbeFile.{checkProbe, runProbe}
-use Rattle.probefile.specs.Estimate.{estimateProbe}
+use Rattle.probe_estimate.specs.Estimate.{estimateProbe}
 use Rattle.relaxation.specs.RelaxedTask.{relaxedTask}
 use Rattle.relaxation.specs.EstimateTask.{estimateTask}
 use Rattle.compilation.specs.CompileFile.{compileFile}

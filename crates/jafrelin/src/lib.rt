@@ -7,7 +7,7 @@ ghost use Rattle.taskfile.specs.TaskFile.{checkTask, costTask, runTask};
 ghost use Rattle.relaxation.specs.RelaxedTask.{relaxedTask};
 ghost use Rattle.relaxation.specs.EstimateTask.{estimateTask};
 ghost use Rattle.probefile.specs.ProbeFile.{checkProbe, runProbe};
-ghost use Rattle.probefile.specs.Estimate.{estimateProbe};
+ghost use Rattle.probe_estimate.specs.Estimate.{estimateProbe};
 ghost use Rattle.compilation.specs.CompileFile.{compileFile, compiledBuffer};
 ghost use Rattle.carry.specs.CarryFile.{expanded, contracted, answerIn, bufferIn};
 ghost use Rattle.jafrelin.specs.Packing.{packedCheck, packedSum, packedLength, packedList, packedEstimate};

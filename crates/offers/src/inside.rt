@@ -1,10 +1,9 @@
 // Sums and offers for partial states that lie inside the file and whose variables have room among the ranks: what their loops need to know is tested once, before them.
 use crate::Summed;
-use estimate::VALUES;
-use estimate::VARIABLES;
 use estimate::ranks::NEVER;
 use estimate::ranks::OVER;
 use estimate::ranks::lesser_rank;
+use probefile::Probe;
 ghost use mathlib.Core.Path.{_≡_};
 ghost use mathlib.Core.Bool.{true};
 ghost use Prim.Native.Nat.{ℕ, _+_, _*_, _/_, _^_, _≤_, _<_, min};
@@ -12,6 +11,7 @@ ghost use lib.Count.{ones};
 ghost use lib.ListN.{length};
 ghost use Rattle.facts.specs.Partial.{standingAt};
 ghost use Rattle.estimate.specs.Number.{ranked};
+ghost use Rattle.estimate.specs.Facts.{mostVariables, mostValues};
 ghost use Rattle.estimate.specs.Additive.{sumFrom};
 ghost use Rattle.estimate.specs.Ranks.{rankNumber, Room, Inside, SumEnds, HasRanks, Fell, afterOffer, afterFact};
 
@@ -28,9 +28,9 @@ pub fn inside(file: &[u8], from: usize, map: u64, n: usize, count: usize) -> boo
 
 // How many variables, of the first n, have room among so many ranks.
 fn with_room(n: usize, count: usize) -> usize
-    ensures { λ r. ⌜ r ≡ min (min n 57) (count / 66) ⌝ }
+    ensures { λ r. ⌜ r ≡ min (min n mostVariables) (count / mostValues) ⌝ }
 {
-    smaller(smaller(n, VARIABLES), count / VALUES)
+    smaller(smaller(n, Probe::MAX_VARIABLES), count / Probe::MAX_VALUES)
 }
 
 // The smaller of two counts.
@@ -67,13 +67,13 @@ pub fn sum_inside(file: &[u8], from: usize, map: u64, ranks: &[u64]) -> Summed
 
 // The rank of the number of the fact that variable v has the value d.
 fn rank_inside(ranks: &[u64], v: usize, d: usize) -> u64
-    requires { ⌜ (v < 57) × (v * 66 + 66 ≤ length (now ranks)) ⌝ }
+    requires { ⌜ (v < mostVariables) × (v * mostValues + mostValues ≤ length (now ranks)) ⌝ }
     ensures { λ r. ⌜ ranked r ≡ rankNumber (now (ranks .entry)) v d ⌝ }
 {
-    if VALUES <= d {
+    if Probe::MAX_VALUES <= d {
         return NEVER;
     }
-    ranks[v * VALUES + d]
+    ranks[v * Probe::MAX_VALUES + d]
 }
 
 // Offers a number, by its rank, to each fact that a map has a value for from an offset on; whether a rank fell.
@@ -97,11 +97,11 @@ pub fn lower_inside(file: &[u8], from: usize, map: u64, offer: u64, ranks: &mut 
 
 // The same for the fact that variable v has the value d.
 fn value_lowered(v: usize, d: usize, offer: u64, ranks: &mut [u64]) -> bool
-    requires { ⌜ (v < 57) × (v * 66 + 66 ≤ length (now ranks)) ⌝ }
+    requires { ⌜ (v < mostVariables) × (v * mostValues + mostValues ≤ length (now ranks)) ⌝ }
     ensures { λ r. ⌜ HasRanks (now (ranks .exit)) (afterFact (ranked offer) v d (rankNumber (now (ranks .entry)))) ⌝ }
     ensures { λ r. ⌜ Fell (now (ranks .entry)) (now (ranks .exit)) r ⌝ }
 {
-    if VALUES <= d {
+    if Probe::MAX_VALUES <= d {
         return false;
     }
     fact_lowered(v, d, offer, ranks)
@@ -113,7 +113,7 @@ pub fn fact_lowered(v: usize, d: usize, offer: u64, ranks: &mut [u64]) -> bool
     ensures { λ r. ⌜ HasRanks (now (ranks .exit)) (afterFact (ranked offer) v d (rankNumber (now (ranks .entry)))) ⌝ }
     ensures { λ r. ⌜ Fell (now (ranks .entry)) (now (ranks .exit)) r ⌝ }
 {
-    let i = v * VALUES + d;
+    let i = v * Probe::MAX_VALUES + d;
     if ranks[i] <= offer {
         return false;
     }

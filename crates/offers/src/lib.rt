@@ -6,13 +6,11 @@ use crate::inside::inside;
 use crate::inside::lower_inside;
 use crate::inside::sum_inside;
 use estimate::Est;
-use estimate::FACTS;
-use estimate::VALUES;
-use estimate::VARIABLES;
 use estimate::ranks::NEVER;
 use estimate::ranks::rank_of;
 use estimate::ranks::sum_rank;
 use facts::Field;
+use probefile::Probe;
 ghost use mathlib.Core.Path.{_≡_};
 ghost use Prim.Native.Nat.{_+_, _≤_};
 ghost use lib.Count.{ones};
@@ -83,7 +81,7 @@ fn values_sum(file: &[u8], at: usize, map: u64, n: usize, ranks: &[u64]) -> Summ
 }
 
 // The goal facts' sum, by the array of facts: of the partial state at an offset, for n variables.
-pub fn goal_sum(file: &[u8], at: usize, n: usize, numbers: [Est; 3762]) -> Est
+pub fn goal_sum(file: &[u8], at: usize, n: usize, numbers: [Est; Probe::FACTS]) -> Est
     ensures { λ r. ⌜ number r ≡ sumFrom (numberIn numbers) 0 n (partialAt (now (file .entry)) at) ⌝ }
 {
     let mut total = Est::Exact(0);
@@ -101,8 +99,8 @@ pub fn goal_sum(file: &[u8], at: usize, n: usize, numbers: [Est; 3762]) -> Est
         if file.len() <= end {
             return total;
         }
-        let i = v * VALUES + file[end] as usize;
-        if FACTS <= i {
+        let i = v * Probe::MAX_VALUES + file[end] as usize;
+        if Probe::FACTS <= i {
             return Est::Never;
         }
         total = estimate::sum(total, numbers[i]);
@@ -120,7 +118,7 @@ pub fn lower_at(file: &[u8], at: usize, offer: u64, ranks: &mut [u64]) -> bool
     match facts::number::read_map(file, at) {
         Field::Refused(_) => false,
         Field::Value(map) => {
-            if inside(file, at + 8, map, VARIABLES, ranks.len()) {
+            if inside(file, at + 8, map, Probe::MAX_VARIABLES, ranks.len()) {
                 return lower_inside(file, at + 8, map, offer, ranks);
             }
             values_lowered(file, at + 8, map, offer, ranks)
@@ -139,7 +137,7 @@ fn values_lowered(file: &[u8], from: usize, map: u64, offer: u64, ranks: &mut [u
     while rest != 0 {
         let bit = partial::lowest_bit(rest);
         let v = bit.zeros;
-        if VARIABLES <= v {
+        if Probe::MAX_VARIABLES <= v {
             return fell;
         }
         if file.len() <= at {
@@ -158,13 +156,13 @@ fn lower_fact(v: usize, d: usize, offer: u64, ranks: &mut [u64]) -> bool
     ensures { λ r. ⌜ HasRanks (now (ranks .exit)) (afterFact (ranked offer) v d (rankNumber (now (ranks .entry)))) ⌝ }
     ensures { λ r. ⌜ Fell (now (ranks .entry)) (now (ranks .exit)) r ⌝ }
 {
-    if VARIABLES <= v {
+    if Probe::MAX_VARIABLES <= v {
         return false;
     }
-    if VALUES <= d {
+    if Probe::MAX_VALUES <= d {
         return false;
     }
-    if ranks.len() <= v * VALUES + d {
+    if ranks.len() <= v * Probe::MAX_VALUES + d {
         return false;
     }
     fact_lowered(v, d, offer, ranks)

@@ -6,6 +6,7 @@ use estimate::ranks::rank_of;
 use estimate::ranks::sum_rank;
 use facts::number::byte_at;
 use facts::number::offset_at;
+use probefile::Probe;
 use taskfile::Task;
 use walk::Edge;
 use walk::edge_for;
@@ -75,13 +76,13 @@ fn edges_inside(file: &[u8], node: usize, variable: usize, size: u8, count: usiz
     if file.len() - node <= Task::EDGE_BYTES * (size as usize) {
         return false;
     }
-    if estimate::VARIABLES <= variable {
+    if Probe::MAX_VARIABLES <= variable {
         return false;
     }
-    if estimate::VALUES < (size as usize) {
+    if Probe::MAX_VALUES < (size as usize) {
         return false;
     }
-    variable * estimate::VALUES + (size as usize) <= count
+    variable * Probe::MAX_VALUES + (size as usize) <= count
 }
 
 // The rank of the least over the values of a variable where edges and ranks are known to be there: sums are cut off at over's rank once, at the end.
@@ -117,7 +118,7 @@ fn edge_sum(
     requires { ⌜ EdgesInside (now file) node variable size (length (now ranks)) × Apart (now least) × (value < size) ⌝ }
     ensures { λ r. ⌜ ranked (settledRank r) ≡ numberFor (now (file .entry)) node (rankNumber (now (ranks .entry))) variable (now (least .entry)) value ⌝ }
 {
-    let number = ranks[variable * estimate::VALUES + value];
+    let number = ranks[variable * Probe::MAX_VALUES + value];
     if NEVER <= number {
         return FAR;
     }

@@ -11,9 +11,10 @@ ghost use Prim.Native.Nat.{_+_, _≤_};
 ghost use lib.ListN.{length};
 ghost use Rattle.facts.specs.Read.{accepted};
 ghost use Rattle.facts.specs.Fields.{valueOf, headAt};
+ghost use Rattle.probefile.specs.Probe.{maxVariables, maxValues};
 ghost use Rattle.probefile.specs.ProbeFile.{readStepCount};
 ghost use Rattle.estimate.specs.Answers.{estimatedAnswer};
-ghost use Rattle.probefile.specs.Estimate.{estimateProbe, InPlace};
+ghost use Rattle.probe_estimate.specs.Estimate.{estimateProbe, InPlace};
 
 // The array of offsets of a file that has few steps is for so many.
 const FEW_STEPS: usize = 128;
@@ -44,7 +45,7 @@ fn estimate_in(
     state: &[u8],
     offsets: &mut [usize],
 ) -> Estimated
-    requires { ⌜ (headAt (now file) 57 66 ≡ accepted (variables, at)) × (valueOf (readStepCount (now file) at) ≡ accepted steps) × (steps ≤ length (now offsets)) ⌝ }
+    requires { ⌜ (headAt (now file) maxVariables maxValues ≡ accepted (variables, at)) × (valueOf (readStepCount (now file) at) ≡ accepted steps) × (steps ≤ length (now offsets)) ⌝ }
     ensures { λ r. ⌜ estimatedAnswer r ≡ estimateProbe (now (file .entry)) (now (state .entry)) ⌝ }
 {
     match probefile::index::index_steps(file, variables, at, steps, offsets) {

@@ -3,6 +3,7 @@ use estimate::Est;
 use estimate::ranks::NEVER;
 use estimate::ranks::UNSET;
 use estimate::ranks::sum_rank;
+use probefile::Probe;
 ghost use mathlib.Core.Path.{_≡_};
 ghost use Prim.Native.Nat.{_<_};
 ghost use mathlib.Core.List.{map};
@@ -14,20 +15,20 @@ ghost use Rattle.estimate.specs.Additive.{additive};
 ghost use Rattle.estimate.specs.Ranks.{rankNumber, HasRanks, Roomy, Fresh, Fell};
 ghost use Rattle.estimate.specs.InTurn.{InTurn};
 ghost use Rattle.probefile.specs.InPlace.{stepAt, Costed};
-ghost use Rattle.probefile.specs.Estimate.{achieverAt, afterStep, Ready};
+ghost use Rattle.probe_estimate.specs.Estimate.{achieverAt, afterStep, Ready};
 
 // The arrays of ranks of files that have few variables: for so many, and with so many places each.
 const FEWEST: usize = 3;
 
-const FEWEST_FACTS: usize = 198;
+const FEWEST_FACTS: usize = FEWEST * Probe::MAX_VALUES;
 
 const FEWER: usize = 8;
 
-const FEWER_FACTS: usize = 528;
+const FEWER_FACTS: usize = FEWER * Probe::MAX_VALUES;
 
 const FEW: usize = 16;
 
-const FEW_FACTS: usize = 1056;
+const FEW_FACTS: usize = FEW * Probe::MAX_VALUES;
 
 // The estimate from a state: `offsets` has the offset of each step, and the goal starts at `goal`. An array is filled in whole, so the smallest that has room for all facts is taken.
 pub fn settle(file: &[u8], sizes: &[u8], goal: usize, offsets: &[usize], state: &[u8]) -> Est
@@ -46,7 +47,7 @@ pub fn settle(file: &[u8], sizes: &[u8], goal: usize, offsets: &[usize], state: 
         let mut few = [UNSET; FEW_FACTS];
         return settle_in(file, sizes, goal, offsets, state, &mut few);
     }
-    let mut ranks = [UNSET; estimate::FACTS];
+    let mut ranks = [UNSET; Probe::FACTS];
     settle_in(file, sizes, goal, offsets, state, &mut ranks)
 }
 

@@ -24,6 +24,9 @@ impl Probe {
         + 2 * Probe::MAX_VARIABLES
         + Probe::PARTIAL_BYTES
         + Probe::MAX_STEPS * (2 * Probe::PARTIAL_BYTES + 2);
+
+    // The numbers of an estimate, document 01's array of 3,762: one for every fact that a file may have, at variable times 66 plus value.
+    pub const FACTS: usize = Probe::MAX_VARIABLES * Probe::MAX_VALUES;
 }
 
 // How many variables and how many steps an accepted file has.

@@ -5,9 +5,10 @@ use lib.ListN.{length, getD, drop}
 use Rattle.facts.specs.Partial.{partialAt}
 use Rattle.facts.specs.WellFormed.{WfPartial}
 use Rattle.estimate.specs.Number.{Number, capped, sum, ranked}
+use Rattle.estimate.specs.Facts.{mostValues}
 use Rattle.estimate.specs.Additive.{Achiever}
 use Rattle.estimate.specs.Ranks.{Roomy}
-use Rattle.taskfile.specs.Task.{maxNodes, WfAction}
+use Rattle.taskfile.specs.Task.{maxVariables, maxNodes, WfAction}
 use Rattle.taskfile.specs.TaskFile.{edgeBytes}
 use Rattle.taskfile.specs.Row.{ownFrom}
 use Rattle.taskfile.specs.WalkInPlace.{nodeCount}
@@ -41,7 +42,7 @@ pub record Climbing (f sizes offsets : List ℕ) (count : ℕ) : Type 0 where
 
 -- an array of ranks has room for so many facts, those of 24 variables
 abbrev pub taskFacts : ℕ
-taskFacts = 1584
+taskFacts = maxVariables * mostValues
 
 -- Domain sizes, goal and actions as they stand in a file, well-formed, so that offers in turn end on their estimate; the actions by the row of the index.
 pub record Estimable (f sizes : List ℕ) (goal count : ℕ) (row : List ℕ) : Type 0 where

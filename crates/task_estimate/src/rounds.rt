@@ -4,6 +4,8 @@ use estimate::ranks::NEVER;
 use estimate::ranks::UNSET;
 use estimate::ranks::sum_rank;
 use price::least_from;
+use probefile::Probe;
+use taskfile::Task;
 use walk::diagram_past;
 use walk::own_nodes;
 ghost use mathlib.Core.Path.{_≡_};
@@ -18,16 +20,16 @@ ghost use Rattle.taskfile.specs.Row.{ownFrom};
 ghost use Rattle.relaxation.specs.EstimateInPlace.{achieverIn, achieversIn, Priceable, Estimable};
 
 // The ranks have room for so many facts, those of 24 variables.
-pub const FACTS: usize = 1584;
+const FACTS: usize = Task::MAX_VARIABLES * Probe::MAX_VALUES;
 
 // The arrays of ranks of tasks that have few variables: for so many, and with so many places each.
 const FEWEST: usize = 3;
 
-const FEWEST_FACTS: usize = 198;
+const FEWEST_FACTS: usize = FEWEST * Probe::MAX_VALUES;
 
 const FEW: usize = 8;
 
-const FEW_FACTS: usize = 528;
+const FEW_FACTS: usize = FEW * Probe::MAX_VALUES;
 
 // The estimate from a state, by the row of the index: there are `count` actions, and the goal starts at `goal`. An array is filled in whole, so the smallest that has room for all facts is taken.
 pub fn settle(

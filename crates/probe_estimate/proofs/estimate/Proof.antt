@@ -5,7 +5,7 @@ use borrow.Author.Needs.{needs}
 use denote.Ref.{now}
 use Rattle.probefile.specs.InPlace.{CountedIn}
 use Rattle.probefile.specs.IndexLaws.{count-fits}
-use Rattle.probefile.specs.EstimateLaws.{estimate-not-read}
+use Rattle.probe_estimate.specs.EstimateLaws.{estimate-not-read}
 use Rattle.probe_estimate.proofs.estimate.Statement.{statement}
 use Rattle.probe_estimate.proofs.estimate.Tie as tie
 

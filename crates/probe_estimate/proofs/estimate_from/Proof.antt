@@ -4,7 +4,7 @@ use mathlib.Core.Path.{_≡_, sym, ap, _∙_}
 use native.Mathlib.Omega.{arith}
 use borrow.Author.Needs.{needs}
 use Rattle.facts.specs.Answers.{checkedAnswer}
-use Rattle.probefile.specs.EstimateLaws.{ready, turned-down, answered}
+use Rattle.probe_estimate.specs.EstimateLaws.{ready, turned-down, answered}
 use Rattle.probe_estimate.proofs.estimate_from.Statement.{statement}
 use Rattle.probe_estimate.proofs.estimate_from.Tie as tie
 

@@ -11,7 +11,7 @@ use Rattle.facts.specs.BytesLaws.{bytes-each}
 use Rattle.probefile.specs.Answers.{indexedAnswer}
 use Rattle.probefile.specs.InPlace.{probeAt}
 use Rattle.probefile.specs.IndexLaws.{counted}
-use Rattle.probefile.specs.EstimateLaws.{estimate-not-read, in-place}
+use Rattle.probe_estimate.specs.EstimateLaws.{estimate-not-read, in-place}
 use Rattle.probe_estimate.proofs.estimate_in.Statement.{statement}
 use Rattle.probe_estimate.proofs.estimate_in.Tie as tie
 

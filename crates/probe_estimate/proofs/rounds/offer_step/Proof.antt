@@ -5,7 +5,7 @@ use borrow.Author.Needs.{needs}
 use Rattle.estimate.specs.Number.{sum}
 use Rattle.estimate.specs.NumberLaws.{ranked-exact, ranked-never}
 use Rattle.estimate.specs.RanksLaws.{fell-none}
-use Rattle.probefile.specs.EstimateLaws.{step-never, step-offered}
+use Rattle.probe_estimate.specs.EstimateLaws.{step-never, step-offered}
 use Rattle.probe_estimate.proofs.rounds.offer_step.Statement.{statement}
 use Rattle.probe_estimate.proofs.rounds.offer_step.Tie as tie
 

@@ -8,7 +8,7 @@ use denote.Ref.{now}
 use borrow.Author.Needs.{needs}
 use Rattle.estimate.specs.RanksLaws.{or-first, or-second}
 use Rattle.estimate.specs.InTurnLaws.{turning-start}
-use Rattle.probefile.specs.EstimateLaws.{TurningFrom, steps-more, steps-all}
+use Rattle.probe_estimate.specs.EstimateLaws.{TurningFrom, steps-more, steps-all}
 use Rattle.probe_estimate.proofs.rounds.offer_steps.Statement.{statement}
 use Rattle.probe_estimate.proofs.rounds.offer_steps.Tie as tie
 

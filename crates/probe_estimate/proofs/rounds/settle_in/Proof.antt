@@ -10,8 +10,8 @@ use Rattle.estimate.specs.Ranks.{rankNumber}
 use Rattle.estimate.specs.RanksLaws.{roomy-same, started-fresh}
 use Rattle.estimate.specs.InTurn.{Nearing}
 use Rattle.estimate.specs.InTurnLaws.{turn-fell, nearing-start, nearing-on, nearing-end}
-use Rattle.probefile.specs.Estimate.{achieverAt}
-use Rattle.probefile.specs.EstimateLaws.{steps-supported}
+use Rattle.probe_estimate.specs.Estimate.{achieverAt}
+use Rattle.probe_estimate.specs.EstimateLaws.{steps-supported}
 use Rattle.probe_estimate.proofs.rounds.settle_in.Statement.{statement}
 use Rattle.probe_estimate.proofs.rounds.settle_in.Tie as tie
 

@@ -26,11 +26,11 @@ use Rattle.estimate.specs.RanksLaws.{roomy}
 use Rattle.estimate.specs.FallLaws.{Supported, constant-supported, all-supported}
 use Rattle.estimate.specs.InTurn.{InTurn}
 use Rattle.estimate.specs.InTurnLaws.{Turning, turning-more, turning-end}
 use Rattle.probefile.specs.Probe.{Step, WfStep, maxVariables, maxValues}
 use Rattle.probefile.specs.ProbeLaws.{probe-lines, probe-wf}
 use Rattle.probefile.specs.InPlace.{probeAt, stepAt, Located, Costed}
 use Rattle.probefile.specs.IndexLaws.{not-read, steps-in-place, costs-in-place, accepted-probe, starts}
-use Rattle.probefile.specs.Estimate.{stepAchiever, probeEstimate, estimateProbe, achieverAt, afterStep, Ready, InPlace}
+use Rattle.probe_estimate.specs.Estimate.{stepAchiever, probeEstimate, estimateProbe, achieverAt, afterStep, Ready, InPlace}
 
 -- ---- the offers of steps
 

@@ -4,8 +4,8 @@ use mathlib.Core.List.{List, map}
 use Rattle.estimate.specs.Number.{exact}
 use Rattle.estimate.specs.FallLaws.{constant-supported, all-supported}
 use Rattle.estimate.specs.RoundBound.{FewRounds, rounds-few}
 use Rattle.probefile.specs.Probe.{Probe}
-use Rattle.probefile.specs.Estimate.{stepAchiever}
+use Rattle.probe_estimate.specs.Estimate.{stepAchiever}
 
 -- "Rounds go on until one changes nothing.": at most as many change something as the file has facts; the code's loop makes one more.
 pub probe-rounds : (p : Probe) (s : List ℕ) → FewRounds (p .sizes) (map stepAchiever (p .steps)) s

@@ -10,9 +10,9 @@ use Rattle.facts.specs.Fields.{readNumber, field, readCount, readValue, readMap
 use Rattle.estimate.specs.Number.{Number, exact}
 use Rattle.estimate.specs.Rounds.{settled}
 use Rattle.estimate.specs.Additive.{additiveRound, lastNumbers, additive, estimateFile}
 use Rattle.probefile.specs.ProbeFile.{readStep, readStepCount, readSteps, readProbe}
-use Rattle.probefile.specs.Estimate.{estimateProbe}
+use Rattle.probe_estimate.specs.Estimate.{estimateProbe}
 use Rattle.probefile.specs.Examples.{P-file}
 
 -- a file, a state and what the operation answers
 pub record Estimate-case : Type 0 where
