@@ -36,11 +36,11 @@ fn compile_in(
     let last = 1 + variables;
     let sizes = &file[1..last];
     let extent = extent_of(file, sizes, actions, row);
-    let needed = probe_writer::head::head_length(file, variables, actions) + extent.bytes;
+    let needed = probe_writer::head_bytes::head_length(file, variables, actions) + extent.bytes;
     if out.len() < needed {
         return Compiled::Refused(Refusal::Short(needed));
     }
-    let at = probe_writer::head::put_head(file, variables, actions, row, extent.steps, out);
+    let at = probe_writer::head_bytes::put_head(file, variables, actions, row, extent.steps, out);
     let written = probe_writer::action::put_actions(file, sizes, actions, row, &mut out[at..]);
     Compiled::Length(at + written)
 }

@@ -22,7 +22,7 @@ pub fn check(file: &[u8]) -> Checked
     ensures { λ r. ⌜ checkedAnswer r ≡ checkProbe (now (file .entry)) ⌝ }
 {
     let mut offsets = [0; Probe::MAX_STEPS];
-    match probefile::index::index(file, &mut offsets) {
+    match probefile::step_index::index(file, &mut offsets) {
         Indexed::Refused(why) => Checked::Refused(why),
         Indexed::Steps(_, _) => Checked::Accepted,
     }
@@ -33,7 +33,7 @@ pub fn run(file: &[u8], list: &[u16]) -> Ran
     ensures { λ r. ⌜ ranAnswer r ≡ runProbe (now (file .entry)) (now (list .entry)) ⌝ }
 {
     let mut offsets = [0; Probe::MAX_STEPS];
-    match probefile::index::index(file, &mut offsets) {
+    match probefile::step_index::index(file, &mut offsets) {
         Indexed::Refused(why) => Ran::Refused(why),
         Indexed::Steps(variables, steps) => {
             if Probe::MAX_LIST < list.len() {

@@ -23,7 +23,7 @@ const FEW_STEPS: usize = 128;
 pub fn estimate(file: &[u8], state: &[u8]) -> Estimated
     ensures { λ r. ⌜ estimatedAnswer r ≡ estimateProbe (now (file .entry)) (now (state .entry)) ⌝ }
 {
-    match probefile::index::count_steps(file) {
+    match probefile::step_index::count_steps(file) {
         Counted::Refused(why) => Estimated::Refused(why),
         Counted::Steps(variables, at, steps) => {
             if steps <= FEW_STEPS {
@@ -48,7 +48,7 @@ fn estimate_in(
     requires { ⌜ (headAt (now file) maxVariables maxValues ≡ accepted (variables, at)) × (valueOf (readStepCount (now file) at) ≡ accepted steps) × (steps ≤ length (now offsets)) ⌝ }
     ensures { λ r. ⌜ estimatedAnswer r ≡ estimateProbe (now (file .entry)) (now (state .entry)) ⌝ }
 {
-    match probefile::index::index_steps(file, variables, at, steps, offsets) {
+    match probefile::step_index::index_steps(file, variables, at, steps, offsets) {
         Indexed::Refused(why) => Estimated::Refused(why),
         Indexed::Steps(variables, steps) => estimate_from(
             file,

@@ -1,5 +1,5 @@
 // Probe files: what they are, and the one pass that checks one and notes where its steps start. Nothing here knows of tasks or diagrams.
-pub mod index;
+pub mod step_index;
 
 use facts::Refusal;
 

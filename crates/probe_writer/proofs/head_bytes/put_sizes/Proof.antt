@@ -1,4 +1,4 @@
--- `probe_writer::head::put_sizes` meets its contract: the number of variables, the task's sizes, the semaphore's, the markers', each straight after the last. Assumes nothing.
+-- `probe_writer::head_bytes::put_sizes` meets its contract: the number of variables, the task's sizes, the semaphore's, the markers', each straight after the last. Assumes nothing.
 use Prim.Native.Nat.{_+_, _-_}
 use mathlib.Core.Path.{_≡_, _∙_}
 use native.Mathlib.Omega.{arith}
@@ -8,8 +8,8 @@ use denote.Ref.{now}
 use Rattle.facts.specs.WriteLaws.{wrote-room, wrote-then}
 use Rattle.probe_writer.specs.HeadLaws.{markers-long, wrote-sizes}
 use borrow.Author.Needs.{needs}
-use Rattle.probe_writer.proofs.head.put_sizes.Statement.{statement}
-use Rattle.probe_writer.proofs.head.put_sizes.Tie as tie
+use Rattle.probe_writer.proofs.head_bytes.put_sizes.Statement.{statement}
+use Rattle.probe_writer.proofs.head_bytes.put_sizes.Tie as tie
 
 -- the length of the task's sizes
 own-long : (c : tie.Start) → length (take (1 + c .args .n - 1) (drop 1 (now (c .args .file)))) ≡ c .args .n

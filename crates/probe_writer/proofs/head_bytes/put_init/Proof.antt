@@ -1,4 +1,4 @@
--- `probe_writer::head::put_init` meets its contract: the task's initial values, then zeros. Assumes nothing.
+-- `probe_writer::head_bytes::put_init` meets its contract: the task's initial values, then zeros. Assumes nothing.
 use Prim.Native.Nat.{ℕ, _+_, _-_}
 use mathlib.Core.Path.{_≡_, sym, _∙_}
 use native.Mathlib.Omega.{arith}
@@ -6,11 +6,11 @@ use lib.ListN.{length, take, drop, replicate, length-drop}
 use lib.Seq.{length-take-le}
 use denote.Ref.{now}
 use Rattle.facts.specs.WriteLaws.{wrote-room, wrote-then}
+use Rattle.taskfile.specs.Task.{maxMarkers}
 use Rattle.probe_writer.specs.HeadLaws.{wrote-init}
 use borrow.Author.Needs.{needs}
-use Rattle.probe_writer.proofs.head.put_init.Statement.{statement}
-use Rattle.probe_writer.proofs.head.put_init.Tie as tie
-use Rattle.taskfile.specs.Task.{maxMarkers}
+use Rattle.probe_writer.proofs.head_bytes.put_init.Statement.{statement}
+use Rattle.probe_writer.proofs.head_bytes.put_init.Tie as tie
 
 -- the lengths of the two rows
 own-long : (c : tie.Start) → length (take (1 + c .args .n + c .args .n - (1 + c .args .n)) (drop (1 + c .args .n) (now (c .args .file)))) ≡ c .args .n

@@ -1,4 +1,4 @@
--- `probefile::index::step_count` meets its contract: two bytes, at most the limit. Assumes nothing.
+-- `probefile::step_index::step_count` meets its contract: two bytes, at most the limit. Assumes nothing.
 use mathlib.Core.Path.{_≡_, sym, ap, _∙_}
 use denote.Ref.{now}
 use Rattle.facts.specs.Read.{accepted}
@@ -6,8 +6,8 @@ use Rattle.facts.specs.Answers.{fieldAnswer}
 use Rattle.facts.specs.Fields.{valueOf, readNumber}
 use Rattle.probefile.specs.InPlaceLaws.{count-refused, count-high, count-good}
 use borrow.Author.Needs.{needs}
-use Rattle.probefile.proofs.index.step_count.Statement.{statement}
-use Rattle.probefile.proofs.index.step_count.Tie as tie
+use Rattle.probefile.proofs.step_index.step_count.Statement.{statement}
+use Rattle.probefile.proofs.step_index.step_count.Tie as tie
 
 word-is : (c : tie.After-count) → readNumber (now (c .before .before .before .before .args .file)) 2 (c .before .before .before .before .args .at) ≡ accepted (c .count .given .0 .0)
 word-is c = sym (c .before .before .read-word .ensures) ∙ ap fieldAnswer (c .count .given .1)

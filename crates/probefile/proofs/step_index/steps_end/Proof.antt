@@ -1,4 +1,4 @@
--- `probefile::index::steps_end` meets its contract: what is left answers what the whole answers, and the offsets up to here are noted.
+-- `probefile::step_index::steps_end` meets its contract: what is left answers what the whole answers, and the offsets up to here are noted.
 -- Assumes nothing.
 use Prim.Native.Nat.{ℕ, _-_, _≤_, _<_}
 use mathlib.Core.Path.{_≡_, refl, sym, ap, _∙_}
@@ -15,8 +15,8 @@ use Rattle.facts.specs.InPlaceLaws.{marks-more}
 use Rattle.probefile.specs.InPlaceLaws.{next-step, steps-more, marked-none}
 use borrow.Author.Needs.{needs}
 use native.Mathlib.Omega.{arith}
-use Rattle.probefile.proofs.index.steps_end.Statement.{statement}
-use Rattle.probefile.proofs.index.steps_end.Tie as tie
+use Rattle.probefile.proofs.step_index.steps_end.Statement.{statement}
+use Rattle.probefile.proofs.step_index.steps_end.Tie as tie
 
 abbrev Inv-loop : tie.InvT-loop
 Inv-loop file from sizes count offsets₀ at₀ i₀ offsets at i =

@@ -1,12 +1,12 @@
--- `probefile::index::index` meets its contract: what stands before the steps, and then the steps. Assumes nothing.
+-- `probefile::step_index::index` meets its contract: what stands before the steps, and then the steps. Assumes nothing.
 use mathlib.Core.Path.{sym, subst}
 use native.Mathlib.Omega.{arith}
 use borrow.Author.Needs.{needs}
 use denote.Ref.{now}
 use Rattle.probefile.specs.InPlace.{CountedIn}
 use Rattle.probefile.specs.IndexLaws.{count-fits, located-none}
-use Rattle.probefile.proofs.index.index.Statement.{statement}
-use Rattle.probefile.proofs.index.index.Tie as tie
+use Rattle.probefile.proofs.step_index.index.Statement.{statement}
+use Rattle.probefile.proofs.step_index.index.Tie as tie
 
 index-steps-requires : tie.Need-index-steps-requires
 index-steps-requires c κs =

@@ -1,4 +1,4 @@
--- `probefile::index::index_steps` meets its contract: steps and end, each refusal where it stands. Assumes nothing.
+-- `probefile::step_index::index_steps` meets its contract: steps and end, each refusal where it stands. Assumes nothing.
 use Prim.Native.Nat.{_+_, _-_}
 use mathlib.Core.Path.{_≡_, sym, ap, _∙_}
 use denote.Ref.{now}
@@ -12,8 +12,8 @@ use Rattle.probefile.specs.ProbeFile.{readSteps}
 use Rattle.probefile.specs.IndexLaws.{count-fits, probe-no-steps, probe-trailing, probe-good, located, located-none}
 use borrow.Author.Needs.{needs}
 use native.Mathlib.Omega.{arith}
-use Rattle.probefile.proofs.index.index_steps.Statement.{statement}
-use Rattle.probefile.proofs.index.index_steps.Tie as tie
+use Rattle.probefile.proofs.step_index.index_steps.Statement.{statement}
+use Rattle.probefile.proofs.step_index.index_steps.Tie as tie
 
 -- the domain sizes are one for each variable
 same : (c : tie.Start) → 1 + c .args .variables - 1 ≡ c .args .variables

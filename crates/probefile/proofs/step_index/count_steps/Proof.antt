@@ -1,10 +1,10 @@
--- `probefile::index::count_steps` meets its contract: the head, and then the step count. Assumes nothing.
+-- `probefile::step_index::count_steps` meets its contract: the head, and then the step count. Assumes nothing.
 use mathlib.Core.Path.{sym, ap, _∙_}
 use borrow.Author.Needs.{needs}
 use Rattle.facts.specs.Answers.{fieldAnswer, headedAnswer}
 use Rattle.probefile.specs.IndexLaws.{probe-no-head, probe-no-count}
-use Rattle.probefile.proofs.index.count_steps.Statement.{statement}
-use Rattle.probefile.proofs.index.count_steps.Tie as tie
+use Rattle.probefile.proofs.step_index.count_steps.Statement.{statement}
+use Rattle.probefile.proofs.step_index.count_steps.Tie as tie
 
 returns : tie.Need-returns
 returns c = probe-no-head _ (sym (c .before .before .before .read-head .ensures) ∙ ap headedAnswer (c .before .why .given .1))

@@ -1,4 +1,4 @@
--- `probe_writer::head::put_head` meets its contract: sizes, initial values, goal and step count, each straight after the last. Assumes nothing.
+-- `probe_writer::head_bytes::put_head` meets its contract: sizes, initial values, goal and step count, each straight after the last. Assumes nothing.
 use Prim.Native.Nat.{ℕ, _+_, _*_, _≤_}
 use mathlib.Core.Path.{_≡_}
 use mathlib.Core.List.{List, _++_}
@@ -10,8 +10,8 @@ use Rattle.facts.specs.WriteLaws.{wrote-inside, wrote-room, wrote-then}
 use Rattle.probe_writer.specs.HeadInPlace.{sizesIn, initIn, goalIn}
 use Rattle.probe_writer.specs.HeadLaws.{sizes-long, init-long, head-long, wrote-head}
 use borrow.Author.Needs.{needs}
-use Rattle.probe_writer.proofs.head.put_head.Statement.{statement}
-use Rattle.probe_writer.proofs.head.put_head.Tie as tie
+use Rattle.probe_writer.proofs.head_bytes.put_head.Statement.{statement}
+use Rattle.probe_writer.proofs.head_bytes.put_head.Tie as tie
 
 -- the three parts, and the room that is required
 abbrev sizes : tie.Start → List ℕ

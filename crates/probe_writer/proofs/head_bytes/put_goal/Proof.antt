@@ -1,4 +1,4 @@
--- `probe_writer::head::put_goal` meets its contract: the bits of semaphore and markers above the goal's own, and zeros behind its values. Assumes nothing.
+-- `probe_writer::head_bytes::put_goal` meets its contract: the bits of semaphore and markers above the goal's own, and zeros behind its values. Assumes nothing.
 use Prim.Native.Nat.{_+_, _*_, _≤_}
 use mathlib.Core.Path.{sym, subst}
 use native.Mathlib.Omega.{arith}
@@ -7,11 +7,11 @@ use lib.Seq.{length-take-le}
 use denote.Ref.{now}
 use Rattle.facts.specs.Partial.{Partial, partialAt, writePartial}
 use Rattle.facts.specs.InPlaceLaws.{past-is}
+use Rattle.taskfile.specs.Task.{maxMarkers}
 use Rattle.probe_writer.specs.HeadLaws.{goal-is, row-fits, wrote-goal}
 use borrow.Author.Needs.{needs}
-use Rattle.probe_writer.proofs.head.put_goal.Statement.{statement}
-use Rattle.probe_writer.proofs.head.put_goal.Tie as tie
-use Rattle.taskfile.specs.Task.{maxMarkers}
+use Rattle.probe_writer.proofs.head_bytes.put_goal.Statement.{statement}
+use Rattle.probe_writer.proofs.head_bytes.put_goal.Tie as tie
 
 -- the task's goal
 abbrev goal : tie.Start → Partial

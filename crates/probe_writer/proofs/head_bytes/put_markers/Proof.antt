@@ -1,4 +1,4 @@
--- `probe_writer::head::put_markers` meets its contract: what is written and what is left are together the sizes of all markers. Assumes nothing.
+-- `probe_writer::head_bytes::put_markers` meets its contract: what is written and what is left are together the sizes of all markers. Assumes nothing.
 use Prim.Native.Nat.{_+_, _-_, _≤_}
 use mathlib.Core.Path.{_≡_, _∙_}
 use mathlib.Core.List.{[], _∷_}
@@ -13,8 +13,8 @@ use Rattle.probe_writer.specs.HeadInPlace.{markersIn}
 use Rattle.facts.specs.WriteRowLaws.{Cut, Going, going-inside, going-same, going-room, going-more, going-end}
 use Rattle.probe_writer.specs.HeadLaws.{markers-long, markers-start, markers-cut, markers-none}
 use borrow.Author.Needs.{needs}
-use Rattle.probe_writer.proofs.head.put_markers.Statement.{statement}
-use Rattle.probe_writer.proofs.head.put_markers.Tie as tie
+use Rattle.probe_writer.proofs.head_bytes.put_markers.Statement.{statement}
+use Rattle.probe_writer.proofs.head_bytes.put_markers.Tie as tie
 
 abbrev Inv-loop : tie.InvT-loop
 Inv-loop file actions row out₀ at₀ a₀ out at a = (a ≤ actions) × Going (markersIn file row 0 actions) (markersIn file row a (actions - a)) out₀ out at
