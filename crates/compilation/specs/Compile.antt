@@ -21,7 +21,7 @@ flat f k (x ∷ xs) = f k x ++ flat f (suc k) xs
 abbrev pub variables : Task → ℕ
 variables t = length (t .sizes)
 
--- With n variables of the task, variable n is the semaphore, and n + 1 + a the marker of action a.
+-- Document 01's semaphore and markers: with n variables of the task, variable n is the semaphore, and n + 1 + a the marker of action a.
 abbrev pub marker : ℕ → ℕ → ℕ
 marker n a = n + suc a
 

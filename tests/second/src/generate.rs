@@ -88,8 +88,18 @@ pub struct Shape {
 
 pub const SMALL: Shape = Shape { variables: (1, 4), values: (2, 4), actions: (1, 5), nodes: (0, 8) };
 pub const TYPICAL: Shape = Shape { variables: (4, 12), values: (2, 5), actions: (4, 16), nodes: (4, 40) };
-pub const LARGE: Shape = Shape { variables: (16, 24), values: (2, 8), actions: (20, 32), nodes: (40, 64) };
-pub const LIMITS: Shape = Shape { variables: (24, 24), values: (8, 8), actions: (32, 32), nodes: (64, 64) };
+pub const LARGE: Shape =
+    Shape { variables: (16, VARIABLES), values: (2, VALUES), actions: (20, ACTIONS), nodes: (40, Task::NODES) };
+pub const LIMITS: Shape = Shape {
+    variables: (VARIABLES, VARIABLES),
+    values: (VALUES, VALUES),
+    actions: (ACTIONS, ACTIONS),
+    nodes: (Task::NODES, Task::NODES),
+};
+
+const VARIABLES: usize = Task::VARIABLES as usize;
+const VALUES: usize = Task::VALUES as usize;
+const ACTIONS: usize = Task::ACTIONS as usize;
 
 /// How full partial states are and how large weights get, for one file.
 struct Density {

@@ -14,7 +14,7 @@ pub fn tasks(comparison: &mut Comparison) {
         ("small tasks", generate::SMALL, 700, 12),
         ("typical tasks", generate::TYPICAL, 500, 40),
         ("large tasks", generate::LARGE, 200, 80),
-        ("tasks with every count at its limit", generate::LIMITS, 100, 256),
+        ("tasks with every count at its limit", generate::LIMITS, 100, Task::LIST),
     ];
     for (kind, shape, seeds, most) in kinds {
         comparison.kind(kind);
@@ -51,13 +51,13 @@ pub fn limits(comparison: &mut Comparison) {
     let random = &mut Random::new(0);
     let longest = special::longest_task();
     assert_eq!(longest.bytes().len(), Task::BYTES);
-    let round: Vec<u16> = (0..8).collect();
+    let round: Vec<u16> = (0..u16::from(Task::VALUES)).collect();
     exercise::task(comparison, random, &longest, &round);
-    exercise::task(comparison, random, &longest, &round.repeat(32));
-    for values in [2, 8] {
+    exercise::task(comparison, random, &longest, &round.repeat(Task::LIST / round.len()));
+    for values in [2, Task::VALUES] {
         let path = special::long_path(values);
-        exercise::task(comparison, random, &path, &[0; 256]);
-        exercise::task(comparison, random, &path, &[0; 257]);
+        exercise::task(comparison, random, &path, &[0; Task::LIST]);
+        exercise::task(comparison, random, &path, &[0; Task::LIST + 1]);
     }
     for seed in 0..2_000 {
         comparison.seed(seed);
@@ -89,7 +89,7 @@ pub fn probes(comparison: &mut Comparison) {
     let kinds = [
         ("small probe files", 500, (4, 5, 8)),
         ("typical probe files", 200, (20, 20, 100)),
-        ("large probe files", 60, (57, 66, 576)),
+        ("large probe files", 60, (Probe::VARIABLES.into(), Probe::VALUES.into(), Probe::STEPS.into())),
     ];
     for (kind, seeds, (variables, values, steps)) in kinds {
         comparison.kind(kind);
@@ -109,7 +109,7 @@ pub fn probes(comparison: &mut Comparison) {
     let longest = special::longest_probe();
     assert_eq!(longest.bytes().len(), Probe::BYTES);
     let random = &mut Random::new(0);
-    let round: Vec<u16> = (0..66).collect();
+    let round: Vec<u16> = (0..u16::from(Probe::VALUES)).collect();
     exercise::probe(comparison, random, &longest, &round);
     for seed in 0..300 {
         comparison.seed(seed);
@@ -130,12 +130,12 @@ pub fn long_lists(comparison: &mut Comparison) {
         task.goal = goal_in(random, &end);
         let file = task.bytes();
         let probe = second::definition::compile(&task).bytes();
-        for length in [255, 256, 257] {
+        for length in Task::LIST - 1..=Task::LIST + 1 {
             exercise::plan(comparison, random, &file, &probe, &list[..length]);
         }
         let starts = second::definition::starts(&task);
         no_nodes(comparison, random, &mut task);
-        let over = vec![starts[0]; 7_000];
+        let over = vec![starts[0]; Probe::LIST + 344];
         comparison.answer(&Call::on(Operation::Contract, &file).list(&over));
         long_probe_list(comparison, random);
     }
@@ -146,7 +146,14 @@ fn no_nodes(comparison: &mut Comparison, random: &mut Random, task: &mut TaskMod
     task.actions[0].nodes.clear();
     task.goal.clear();
     let file = task.bytes();
-    for (repeats, more) in [(256, 0), (256, 1), (257, 0), (257, 1), (3_328, 0), (3_328, 1)] {
+    for (repeats, more) in [
+        (Task::LIST, 0),
+        (Task::LIST, 1),
+        (Task::LIST + 1, 0),
+        (Task::LIST + 1, 1),
+        (Probe::LIST / 2, 0),
+        (Probe::LIST / 2, 1),
+    ] {
         let mut list = [0, 1].repeat(repeats);
         list.resize(list.len() + more, 0);
         let call = Call::on(Operation::Contract, &file);
@@ -164,11 +171,11 @@ fn long_probe_list(comparison: &mut Comparison, random: &mut Random) {
     probe.goal = goal_in(random, &end);
     let file = probe.bytes();
     let call = Call::on(Operation::RunProbe, &file);
-    for length in [6_655, 6_656, 6_657] {
+    for length in Probe::LIST - 1..=Probe::LIST + 1 {
         comparison.answer(&call.list(&list[..length]));
     }
     for _ in 0..4 {
-        let damaged = generate::damaged_list(random, &list[..6_656], probe.steps.len());
+        let damaged = generate::damaged_list(random, &list[..Probe::LIST], probe.steps.len());
         comparison.answer(&call.list(&damaged));
     }
 }
