@@ -1,6 +1,8 @@
 -- Task P of document 01 and a task of two variables and two actions in words, and their cost diagrams.
 use mathlib.Core.Path.{_≡_, refl}
-use mathlib.Core.List.{[], _∷_}
+use mathlib.Core.List.{[], _∷_, _++_}
+use Rattle.facts.specs.Read.{accepted, refused}
+use Rattle.facts.specs.Write.{over, fitting, lengthIn, writtenIn}
 use Rattle.taskfile.specs.Task.{Task}
 use Rattle.text.specs.Text.{decimal}
 use Rattle.text.specs.Append.{bytes}
@@ -64,3 +66,16 @@ two-in-words = refl
 two-drawn : dotText 0 (taskTwo .actions) ≡ bytes "digraph costs {\n  a0 [shape=plaintext, label=\"action 0\"];\n  a0 -> a0n1 [label=\"+3\"];\n  a0n1 [label=\"variable 0\"];\n  a0n1 -> a0n2 [label=\"0: +5\"];\n  a0n1 -> a0n3 [label=\"1: +0\"];\n  a0n2 [label=\"variable 1\"];\n  a0n2 -> a0n3 [label=\"0: +0\"];\n  a0n2 -> a0n3 [label=\"1: +1\"];\n  a0n2 -> a0n3 [label=\"2: +7\"];\n  a0n3 [shape=box, label=\"end\"];\n  a1 [shape=plaintext, label=\"action 1\"];\n  a1 -> a1n1 [label=\"+10\"];\n  a1n1 [label=\"variable 1\"];\n  a1n1 -> a1n2 [label=\"0: +4\"];\n  a1n1 -> a1n2 [label=\"1: +0\"];\n  a1n1 -> a1n2 [label=\"2: +12\"];\n  a1n2 [shape=box, label=\"end\"];\n}\n"
 unfolding dotText decimal
 two-drawn = refl
+
+-- a text in a buffer that is shorter, and in one that is longer
+short : lengthIn 3 (accepted (bytes "text")) ≡ refused 7 4
+unfolding lengthIn
+short = refl
+
+not-cut : writtenIn (9 ∷ 9 ∷ 9 ∷ []) (accepted (bytes "text")) ≡ 9 ∷ 9 ∷ 9 ∷ []
+unfolding writtenIn over fitting
+not-cut = refl
+
+at-the-front : writtenIn (9 ∷ 9 ∷ 9 ∷ 9 ∷ 9 ∷ []) (accepted (bytes "text")) ≡ bytes "text" ++ (9 ∷ [])
+unfolding writtenIn over fitting
+at-the-front = refl
