@@ -1,10 +1,10 @@
 -- Text written into a lent buffer, one part straight after the other: each byte where there is room for it, and counted in any case.
-use Prim.Native.Nat.{ℕ, _+_, min}
+use Prim.Native.Nat.{ℕ, _+_, _≤_, min}
 use Prim.Native.Char.{code}
 use Prim.Native.String.{String, [] as []ₛ, _∷_ as _∷ₛ_}
 use mathlib.Core.Path.{_≡_}
 use mathlib.Core.List.{List, [], _∷_}
-use lib.ListN.{set}
+use lib.ListN.{length, take, set}
 
 -- the bytes of a text of ASCII characters
 abbrev pub bytes : String → List ℕ
@@ -33,3 +33,7 @@ past (b ∷ bs) at = past bs (next at)
 pub record Adds (bs before now : List ℕ) (at end : ℕ) : Type 0 where
   pub buffer : now ≡ put bs at before
   pub place : end ≡ past bs at
+
+-- n counts bytes at the front of a buffer, as library `io` says it of `&buffer[..n]`
+abbrev pub Counts : ℕ → List ℕ → Type 0
+Counts n xs = (n ≤ length xs) × (n ≡ length (take n xs))

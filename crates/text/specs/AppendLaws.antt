@@ -6,12 +6,12 @@ use mathlib.Core.List.{List, [], _∷_, _++_, append-assoc}
 use native.Mathlib.Omega.{arith}
 use native.Mathlib.Numerals.{add-one}
 use lib.Dec.{ltb}
-use lib.ListN.{length, drop, set, getD, length-append, length-set, drop-of-length-le}
+use lib.ListN.{length, drop, set, getD, length-append, length-take, length-set, drop-of-length-le}
 use lib.Seq.{drop-cons, set-at}
 use borrow.Author.Tests.{lt-ltb, le-ltb, ltb-true, ltb-false}
 use Rattle.facts.specs.Write.{over, Wrote}
 use Rattle.text.specs.Text.{decimal, endOf, endAt, eachText, listText}
-use Rattle.text.specs.Append.{largest, next, put, past, Adds}
+use Rattle.text.specs.Append.{largest, next, put, past, Adds, Counts}
 use Rattle.text.specs.PrintLaws.{decimal-one, decimal-more}
 
 -- ---- one part and then another
@@ -168,3 +168,8 @@ adds-end {text} l v = v .place ∙ past-counts text 0 (omega arith) ∙ omega ar
 -- where there is room the text stands at the front
 pub adds-wrote : {text out now : List ℕ} {end : ℕ} → length text ≤ largest → length text ≤ length out → Adds text out now 0 end → Wrote text out now end
 adds-wrote {text} {out} few l v = record { count = adds-end few v; buffer = v .buffer ∙ put-after text [] out l (omega arith) }
+
+-- ---- as much of a text as stands in its buffer
+
+pub counts : (n : ℕ) (xs : List ℕ) → n ≤ length xs → Counts n xs
+counts n xs l = (l, omega (arith, length-take n xs))

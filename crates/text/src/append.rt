@@ -2,7 +2,7 @@
 ghost use mathlib.Core.Path.{_≡_};
 ghost use mathlib.Core.List.{[], _∷_};
 ghost use Rattle.text.specs.Text.{decimal, endAt, listText};
-ghost use Rattle.text.specs.Append.{next, Adds};
+ghost use Rattle.text.specs.Append.{next, Adds, Counts};
 
 // A byte; the index past it.
 pub fn append_byte(out: &mut [u8], at: usize, byte: u8) -> usize
@@ -74,4 +74,14 @@ fn ending(i: usize, count: usize) -> u8
         return 32;
     }
     10
+}
+
+// As much of a text as stands in its buffer, where a writer answered the index `end`.
+pub fn within(end: usize, text: &[u8]) -> usize
+    ensures { λ r. ⌜ Counts r (now (text .entry)) ⌝ }
+{
+    if text.len() < end {
+        return text.len();
+    }
+    end
 }

@@ -10,7 +10,6 @@ use crate::output::failed;
 use crate::output::listed;
 use crate::output::refuse;
 use crate::output::save;
-use crate::output::within;
 use crate::output::within16;
 use carry::Carried;
 use compilation::Compiled;
@@ -20,7 +19,10 @@ use facts::Ran;
 use probefile::Probe;
 use report::Subject;
 use taskfile::Costed;
+// The most bytes that a written probe file has.
+const WRITTEN: usize = 13846;
 use taskfile::Task;
+use text::append::within;
 
 // One entry more than the longest list, one of steps, and than a state may have.
 const LIST: usize = Probe::MAX_LIST + 1;

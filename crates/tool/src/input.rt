@@ -1,10 +1,10 @@
 // What the arguments name: files, texts of numbers, and numbers.
 use crate::output::fault;
-use crate::output::within;
 use crate::output::within16;
 use report::Fault;
 use text::Found;
 use text::One;
+use text::append::within;
 ghost use Rattle.io.specs.Counts.{Counts};
 
 // The most bytes of a text of numbers.

@@ -4,6 +4,7 @@ use facts::Refusal;
 use report::Fault;
 use report::Subject;
 use text::append::append_list;
+use text::append::within;
 ghost use Rattle.io.specs.Counts.{Counts};
 
 // Where the exit status goes, for the script that starts the tool.
@@ -15,17 +16,7 @@ const LINE: usize = 512;
 // The most bytes of a list as text: five digits and a blank for each entry.
 const LIST_TEXT: usize = 65536;
 
-// The number n, or the length of a text if that is less.
-pub fn within(n: usize, text: &[u8]) -> usize
-    ensures { λ r. ⌜ Counts r (now (text .entry)) ⌝ }
-{
-    if text.len() < n {
-        return text.len();
-    }
-    n
-}
-
-// The same for a list.
+// The number n, or the length of a list if that is less.
 pub fn within16(n: usize, list: &[u16]) -> usize
     ensures { λ r. ⌜ Counts r (now (list .entry)) ⌝ }
 {

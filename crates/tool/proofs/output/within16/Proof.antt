@@ -1,6 +1,6 @@
 -- `tool::output::within16` meets its contract: one test. Assumes nothing.
 use native.Mathlib.Omega.{arith}
-use Rattle.tool.proofs.Counting.{counts}
+use Rattle.text.specs.AppendLaws.{counts}
 use Rattle.tool.proofs.output.within16.Statement.{statement}
 use Rattle.tool.proofs.output.within16.Tie as tie
 

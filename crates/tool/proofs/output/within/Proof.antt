@@ -1,8 +1,0 @@
--- `tool::output::within` meets its contract: one test. Assumes nothing.
-use native.Mathlib.Omega.{arith}
-use Rattle.tool.proofs.Counting.{counts}
-use Rattle.tool.proofs.output.within.Statement.{statement}
-use Rattle.tool.proofs.output.within.Tie as tie
-
-pub within-spec : {M : Type 1} → statement M
-within-spec = tie.close (tie.spec (λ c. counts _ _ (omega arith)) (λ c. counts _ _ (c .if1 .left)))
