@@ -12,7 +12,26 @@ pub enum Estimate {
     Never,
 }
 
-/// Numbers are u64: exact up to u32::MAX, over up to here, never from here on; no sum of numbers that are not never reaches it.
+impl Estimate {
+    /// The estimate that a number stands for.
+    fn of(number: u64) -> Estimate {
+        match number {
+            _ if number < OVER => Estimate::Exact(number as u32),
+            _ if number < NEVER => Estimate::Over,
+            _ => Estimate::Never,
+        }
+    }
+
+    fn plus(self, other: Estimate) -> Estimate {
+        match (self, other) {
+            (Estimate::Never, _) | (_, Estimate::Never) => Estimate::Never,
+            (Estimate::Exact(a), Estimate::Exact(b)) => a.checked_add(b).map_or(Estimate::Over, Estimate::Exact),
+            _ => Estimate::Over,
+        }
+    }
+}
+
+/// While rounds go on numbers are u64: exact up to u32::MAX, over up to here, never from here on; no sum of numbers that are not never reaches it.
 const NEVER: u64 = 1 << 40;
 /// The one number that stands for all that are over.
 const OVER: u64 = 1 << 32;
@@ -39,6 +58,8 @@ pub fn relaxed_cost(file: &[u8], action: u64, sets: &[u8]) -> Answer<u32> {
 pub fn estimate_task(file: &[u8], state: &[u8]) -> Answer<Estimate> {
     let task = Task::read(file)?;
     task.head.check_state(state, |value, size| value < size)?;
+    let mut facts = [Estimate::Never; FACTS];
+    start(&mut facts, state);
     let mut numbers = Numbers::of(task.head.sizes, state);
     numbers.settle(|numbers| {
         let mut changed = false;
@@ -52,13 +73,16 @@ pub fn estimate_task(file: &[u8], state: &[u8]) -> Answer<Estimate> {
         }
         changed
     });
-    Ok(numbers.estimate(task.head.goal))
+    numbers.store(task.head.sizes, &mut facts);
+    Ok(sum_of(&facts, task.head.goal))
 }
 
 /// The estimate of a probe file's goal from a state.
 pub fn estimate_probe(file: &[u8], state: &[u8]) -> Answer<Estimate> {
     let probe = Probe::read(file)?;
     probe.head.check_state(state, |value, size| value < size)?;
+    let mut facts = [Estimate::Never; FACTS];
+    start(&mut facts, state);
     let mut numbers = Numbers::of(probe.head.sizes, state);
     numbers.settle(|numbers| {
         let mut changed = false;
@@ -70,7 +94,8 @@ pub fn estimate_probe(file: &[u8], state: &[u8]) -> Answer<Estimate> {
         }
         changed
     });
-    Ok(numbers.estimate(probe.head.goal))
+    numbers.store(probe.head.sizes, &mut facts);
+    Ok(sum_of(&facts, probe.head.goal))
 }
 
 /// The least, over the paths from node 1 to the terminal, of the weights and of what the fact of each edge adds.
@@ -92,7 +117,25 @@ fn least_path<'a>(action: &Action, nodes: impl Iterator<Item = Node<'a>>, added:
     least[action.node_count + 1]
 }
 
-/// One number for every fact of a file.
+/// The estimates of all facts that a file may have, at variable times 66 plus value.
+type Facts = [Estimate; FACTS];
+const VALUES: usize = Probe::VALUES as usize;
+const FACTS: usize = Probe::VARIABLES as usize * VALUES;
+
+/// Stores 0 for the facts of a state.
+fn start(facts: &mut Facts, state: &[u8]) {
+    for (row, &value) in facts.chunks_exact_mut(VALUES).zip(state) {
+        row[usize::from(value)] = Estimate::Exact(0);
+    }
+}
+
+/// The sum of the estimates of a goal's facts.
+fn sum_of(facts: &Facts, goal: PartialState) -> Estimate {
+    goal.facts()
+        .fold(Estimate::Exact(0), |sum, (variable, value)| sum.plus(facts[variable * VALUES + usize::from(value)]))
+}
+
+/// One number for every fact of a file, for the rounds.
 struct Numbers {
     first: [u16; 64],
     numbers: Vec<u64>,
@@ -143,12 +186,13 @@ impl Numbers {
         changed
     }
 
-    /// What the numbers say of a goal.
-    fn estimate(&self, goal: PartialState) -> Estimate {
-        match self.sum(goal) {
-            sum if sum < OVER => Estimate::Exact(sum as u32),
-            sum if sum < NEVER => Estimate::Over,
-            _ => Estimate::Never,
+    /// Stores the estimates of all facts of the file.
+    fn store(&self, sizes: &[u8], facts: &mut Facts) {
+        let mut numbers = self.numbers.iter();
+        for (row, &size) in facts.chunks_exact_mut(VALUES).zip(sizes) {
+            for (place, &number) in row.iter_mut().zip(numbers.by_ref().take(usize::from(size))) {
+                *place = Estimate::of(number);
+            }
         }
     }
 }
