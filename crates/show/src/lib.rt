@@ -3,7 +3,7 @@ use estimate::Estimated;
 use facts::Checked;
 use facts::Ran;
 use facts::Refusal;
-ghost use Rattle.io.specs.Counts.{Counts};
+use text::append::within;
 
 // More bytes than any of these lines has.
 const LINE: usize = 64;
@@ -12,16 +12,6 @@ const LINE: usize = 64;
 fn write(line: &[u8], n: usize) {
     let most = within(n, line);
     io::write_all(1, &line[..most]);
-}
-
-// The number n, or the length of a line if that is less.
-fn within(n: usize, line: &[u8]) -> usize
-    ensures { λ r. ⌜ Counts r (now (line .entry)) ⌝ }
-{
-    if line.len() < n {
-        return line.len();
-    }
-    n
 }
 
 // A refusal, as `refused 2 at 40`: number and place.

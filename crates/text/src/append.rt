@@ -1,6 +1,8 @@
 // Text written from an index of a buffer on: bytes, numbers and lists of them. A byte is written where there is room for it and counted in any case, so a writer tells how long its text is in a buffer of any length.
 ghost use mathlib.Core.Path.{_≡_};
+ghost use Prim.Native.Nat.{min};
 ghost use mathlib.Core.List.{[], _∷_};
+ghost use lib.ListN.{length};
 ghost use Rattle.text.specs.Text.{decimal, endAt, listText};
 ghost use Rattle.text.specs.Append.{next, Adds, Counts};
 
@@ -78,6 +80,7 @@ fn ending(i: usize, count: usize) -> u8
 
 // As much of a text as stands in its buffer, where a writer answered the index `end`.
 pub fn within(end: usize, text: &[u8]) -> usize
+    ensures { λ r. ⌜ r ≡ min end (length (now (text .entry))) ⌝ }
     ensures { λ r. ⌜ Counts r (now (text .entry)) ⌝ }
 {
     if text.len() < end {

@@ -19,8 +19,6 @@ use facts::Ran;
 use probefile::Probe;
 use report::Subject;
 use taskfile::Costed;
-// The most bytes that a written probe file has.
-const WRITTEN: usize = 13846;
 use taskfile::Task;
 use text::append::within;
 
