@@ -1,4 +1,4 @@
--- How long the lines of a list are. For every accepted task file and every list that is taken they have at most 524,288 bytes, for which the bench tool has room.
+-- How long the lines of a list are: for every accepted task file and every list that is taken no longer than the bench tool's buffer.
 use Prim.Native.Nat.{ℕ, _+_, _*_, _≤_, _<_}
 use mathlib.Core.Path.{_≡_, refl, subst}
 use mathlib.Core.Option.{Option, none, some}
@@ -24,6 +24,10 @@ use Rattle.words.specs.LengthLaws.{two, five, number-small, few-nodes, variable
 use Rattle.steps.specs.Steps.{node, end, Named, nodeNames, actionNames, namesOf, nameText, lineText, costAt, entryText, linesFrom, checkSteps}
 use Rattle.steps.specs.NamedFile.{named}
 use Rattle.steps.specs.CostLaws.{same-count}
+
+-- the most bytes of the lines of a list
+abbrev pub mostLines : ℕ
+mostLines = 524288
 
 -- ---- a step
 
@@ -74,7 +78,7 @@ module _ (names : List Named) (brief : All Brief names) (few : length names ≤ 
 
 -- ---- the operation, for every file and list
 
-pub named-most : (f list : List ℕ) → Bytes f → {text : List ℕ} → named f list ≡ accepted text → length text ≤ 524288
+pub named-most : (f list : List ℕ) → Bytes f → {text : List ℕ} → named f list ≡ accepted text → length text ≤ mostLines
 unfolding named atMost probeOf
 named-most f list b h =
     let r = through (readTask f) h in
@@ -83,4 +87,4 @@ named-most f list b h =
     let ok = task-accepted f b (r .first) in
     let few = leb-true (length list) maxList (checked (leb (length list) maxList) 8 maxList (l .first)) in
     let steps : length (namesOf (r .got)) ≤ 576 = omega (arith, same-count (r .got), steps-most (r .got) (ok .wf) (ok .limits)) in
-    subst (λ (xs : List ℕ). length xs ≤ 524288) (accepted-same (s .then)) (omega (arith, few, lines-most (namesOf (r .got)) (brief-names ok) steps list 0 (omega (arith, few))))
+    subst (λ (xs : List ℕ). length xs ≤ mostLines) (accepted-same (s .then)) (omega (arith, few, lines-most (namesOf (r .got)) (brief-names ok) steps list 0 (omega (arith, few))))

@@ -1,4 +1,4 @@
--- How long texts about tasks are. For every accepted task file its text and its drawing have at most 65,536 bytes, for which the bench tool has room.
+-- How long texts about tasks are: for every accepted task file the task in words and its drawings are no longer than the bench tool's buffer.
 use Prim.Native.Nat.{ℕ, zero, suc, _+_, _*_, _%_, _≤_, _<_}
 use mathlib.Core.Path.{_≡_, refl, ap, subst, _∙_}
 use mathlib.Core.Option.{Option, none, some}
@@ -29,6 +29,10 @@ use Rattle.words.specs.Show.{variableText, targetText, edgeText, nodeTex
 use Rattle.words.specs.Dot.{dotEdge, dotNode, dotEntry, dotEnd, dotAction, dotText}
 use Rattle.words.specs.DescribeFile.{shown, drawn, drawnAction}
 
+-- the most bytes of a text about a task
+abbrev pub mostText : ℕ
+mostText = 65536
+
 -- ---- parts
 
 -- A number of a variable, a value, an action or a node has at most two digits, a weight at most five.
@@ -39,7 +43,7 @@ pub five : (n : ℕ) → n ≤ 65535 → length (decimal n) ≤ 5
 five n l = digits-most 4 n (omega arith)
 
 -- A row of texts of at most `a` bytes each, and `b` for each of their parts.
-pub flat-most : {A : Type 0} (text : ℕ → A → List ℕ) (a b : ℕ) (parts : A → ℕ) (k : ℕ) (xs : List A)
+flat-most : {A : Type 0} (text : ℕ → A → List ℕ) (a b : ℕ) (parts : A → ℕ) (k : ℕ) (xs : List A)
     → ((j q : ℕ) (x : A) → At xs j x → q ≡ k + j → length (text q x) ≤ a + b * parts x) → length (flat text k xs) ≤ a * length xs + b * total parts xs
 flat-most text a b parts k [] h = omega arith
 flat-most text a b parts k (x ∷ xs) h =
@@ -51,6 +55,10 @@ flat-most text a b parts k (x ∷ xs) h =
       mul-suc a (length xs),
       mul-add b (parts x) (total parts xs),
     )
+
+-- A row of texts of at most `a` bytes each.
+flat-each : {A : Type 0} (text : ℕ → A → List ℕ) (a k : ℕ) (xs : List A) → ((j q : ℕ) (x : A) → At xs j x → q ≡ k + j → length (text q x) ≤ a) → length (flat text k xs) ≤ a * length xs
+flat-each text a k xs h = omega (arith, flat-most text a 0 (λ x. 0) k xs (λ j q x o e. omega (arith, h j q x o e)))
 
 -- ---- partial states
 
@@ -107,7 +115,7 @@ terminal-most a i l m = simp length-append (omega (arith, two a l, two i m))
 -- ---- an action of an accepted task
 
 module _ {t : Task} (ok : AcceptedTask t) where
-  -- its variables
+  -- what its numbers and counts are below
   few-variables : length (t .sizes) ≤ 24
   few-variables = ok .limits .variables
 
@@ -141,18 +149,18 @@ module _ {t : Task} (ok : AcceptedTask t) where
       -- The node: its edges have 8 times 40 bytes, or 8 times 45.
       node-most : (i m : ℕ) → i < 100 → length (nodeText m i nd) ≤ 350
       node-most i m l =
-          let edges = flat-most (edgeText m) 40 0 (λ e. 0) 0 (nd .edges) (λ d q e u s. let same : d ≡ q = omega arith in omega (arith, edge-most m q e (omega (arith, value-small u)) (target-small u) (weight-small u))) in
+          let edges = flat-each (edgeText m) 40 0 (nd .edges) (λ d q e u s. edge-most m q e (omega (arith, value-small u)) (target-small u) (weight-small u)) in
           simp length-append (omega (arith, two i l, two (nd .var) variable-small, few-edges, edges))
 
       vertex-most : (i : ℕ) → i < 100 → length (dotNode a i nd) ≤ 400
       vertex-most i l =
-          let edges = flat-most (dotEdge a i) 45 0 (λ e. 0) 0 (nd .edges) (λ d q e u s. omega (arith, arrow-most a i q e number-small l (omega (arith, value-small u)) (target-small u) (weight-small u))) in
+          let edges = flat-each (dotEdge a i) 45 0 (nd .edges) (λ d q e u s. arrow-most a i q e number-small l (omega (arith, value-small u)) (target-small u) (weight-small u)) in
           simp length-append (omega (arith, two a number-small, two i l, two (nd .var) variable-small, few-edges, edges))
 
     -- The action.
     action-most : length (actionText (length (t .sizes)) a x) ≤ 400 + 350 * length (x .nodes)
     action-most =
-        let nodes = flat-most (nodeText (length (x .nodes))) 350 0 (λ nd. 0) 1 (x .nodes) (λ j q nd o s. omega (arith, node-most o q (length (x .nodes)) (omega (arith, at-length o, few-nodes)))) in
+        let nodes = flat-each (nodeText (length (x .nodes))) 350 1 (x .nodes) (λ j q nd o s. node-most o q (length (x .nodes)) (omega (arith, at-length o, few-nodes))) in
         simp length-append
         (omega (
           arith,
@@ -166,7 +174,7 @@ module _ {t : Task} (ok : AcceptedTask t) where
 
     diagram-most : length (dotAction a x) ≤ 120 + 400 * length (x .nodes)
     diagram-most =
-        let nodes = flat-most (dotNode a) 400 0 (λ nd. 0) 1 (x .nodes) (λ j q nd o s. omega (arith, vertex-most o q (omega (arith, at-length o, few-nodes)))) in
+        let nodes = flat-each (dotNode a) 400 1 (x .nodes) (λ j q nd o s. vertex-most o q (omega (arith, at-length o, few-nodes))) in
         omega (
           arith,
           length-append (dotEntry a (x .incoming)) (flat (dotNode a) 1 (x .nodes) ++ dotEnd a (suc (length (x .nodes)))),
@@ -179,26 +187,26 @@ module _ {t : Task} (ok : AcceptedTask t) where
   -- ---- the task
 
   -- In words.
-  task-most : length (taskText t) ≤ 65536
+  task-most : length (taskText t) ≤ mostText
   unfolding taskText
   task-most =
-      let names = flat-most (λ v size. variableText v size (getD (t .init) v 0)) 40 0 (λ size. 0) 0 (t .sizes) (λ j q size o e.
+      let names = flat-each (λ v size. variableText v size (getD (t .init) v 0)) 40 0 (t .sizes) (λ j q size o e.
       let below : q < length (t .sizes) = omega (arith, at-length o) in
       let values = all-at (λ d. (2 ≤ d) × (d ≤ 8)) (ok .limits .sizes) o in
       let value : getD (t .init) q 0 < 100 = omega (arith, inside-at (t .sizes) (t .init) q (ok .wf .init) below, small-at (t .sizes) q (ok .limits .sizes) below) in
-      omega (arith, variable-most q size (getD (t .init) q 0) (omega (arith, few-variables)) (omega (arith, values)) value)) in
+      variable-most q size (getD (t .init) q 0) (omega (arith, few-variables)) (omega (arith, values)) value) in
       let actions = flat-most (actionText (length (t .sizes))) 400 350 (λ x. length (x .nodes)) 0 (t .actions) (λ j q x o e. let same : j ≡ q = omega arith in subst (λ (k : ℕ). length (actionText (length (t .sizes)) k x) ≤ 400 + 350 * length (x .nodes)) same (action-most o)) in
       simp length-append (omega (arith, names, actions, partial-most few-variables (ok .limits .sizes) (ok .wf .goal), few-variables, ok .limits .actions, ok .limits .nodes))
 
   -- All cost diagrams.
-  drawing-most : length (dotText 0 (t .actions)) ≤ 65536
+  drawing-most : length (dotText 0 (t .actions)) ≤ mostText
   unfolding dotText
   drawing-most =
       let actions = flat-most dotAction 120 400 (λ x. length (x .nodes)) 0 (t .actions) (λ j q x o e. let same : j ≡ q = omega arith in subst (λ (k : ℕ). length (dotAction k x) ≤ 120 + 400 * length (x .nodes)) same (diagram-most o)) in
       simp length-append (omega (arith, actions, ok .limits .actions, ok .limits .nodes))
 
   -- One of them.
-  one-drawing-most : {a : ℕ} {x : Action} → At (t .actions) a x → length (dotText a (x ∷ [])) ≤ 65536
+  one-drawing-most : {a : ℕ} {x : Action} → At (t .actions) a x → length (dotText a (x ∷ [])) ≤ mostText
   unfolding dotText
   one-drawing-most {a} {x} h =
       omega (arith, length-append (dotAction a x ++ []) (bytes "}\n"), length-append {A = ℕ} (dotAction a x) [], diagram-most h, few-nodes h)
@@ -217,17 +225,17 @@ action-at actions a {x} h = go (getElem? actions a) refl h
     go (some y) e h = let same : y ≡ x = cc in found actions a (e ∙ ap some same)
 
 module _ (f : List ℕ) (b : Bytes f) {text : List ℕ} where
-  pub shown-most : shown f ≡ accepted text → length text ≤ 65536
+  pub shown-most : shown f ≡ accepted text → length text ≤ mostText
   unfolding shown
-  shown-most h = let m = made taskText (readTask f) h in subst (λ (xs : List ℕ). length xs ≤ 65536) (m .value) (task-most (task-accepted f b (m .answer)))
+  shown-most h = let m = made taskText (readTask f) h in subst (λ (xs : List ℕ). length xs ≤ mostText) (m .value) (task-most (task-accepted f b (m .answer)))
 
-  pub drawn-most : drawn f ≡ accepted text → length text ≤ 65536
+  pub drawn-most : drawn f ≡ accepted text → length text ≤ mostText
   unfolding drawn
-  drawn-most h = let m = made (λ (t : Task). dotText 0 (t .actions)) (readTask f) h in subst (λ (xs : List ℕ). length xs ≤ 65536) (m .value) (drawing-most (task-accepted f b (m .answer)))
+  drawn-most h = let m = made (λ (t : Task). dotText 0 (t .actions)) (readTask f) h in subst (λ (xs : List ℕ). length xs ≤ mostText) (m .value) (drawing-most (task-accepted f b (m .answer)))
 
-  pub drawn-action-most : (a : ℕ) → drawnAction f a ≡ accepted text → length text ≤ 65536
+  pub drawn-action-most : (a : ℕ) → drawnAction f a ≡ accepted text → length text ≤ mostText
   unfolding drawnAction
   drawn-action-most a h =
       let r = through (readTask f) h in
       let x = through (actionOf (r .got .actions) a) (r .then) in
-      subst (λ (xs : List ℕ). length xs ≤ 65536) (accepted-same (x .then)) (one-drawing-most (task-accepted f b (r .first)) (action-at (r .got .actions) a (x .first)))
+      subst (λ (xs : List ℕ). length xs ≤ mostText) (accepted-same (x .then)) (one-drawing-most (task-accepted f b (r .first)) (action-at (r .got .actions) a (x .first)))
