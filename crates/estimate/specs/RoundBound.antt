@@ -26,7 +26,7 @@ afterRounds round zero numbers = numbers
 afterRounds round (suc n) numbers = round (afterRounds round n numbers)
 
 -- "Rounds go on until one changes nothing." One that changes something has fewer rounds before it than there are facts; and as many rounds as
--- there are facts are enough for the last numbers. A loop makes one round more, to see that it changes nothing.
+-- there are facts are enough for the last numbers. This bounds the rounds of the definition; the code makes turns, and nothing is said here of how many.
 pub record FewRounds (sizes : List ℕ) (achievers : List Achiever) (s : List ℕ) : Type 0 where
   pub changes : (k : ℕ)
       → let numbers = afterRounds (additiveRound sizes achievers) k (startNumbers sizes s) in

@@ -77,7 +77,7 @@ pub fn start(state: &[u8], ranks: &mut [u64]) -> [Est; Probe::FACTS]
     numbers
 }
 
-// The same array with the last numbers put back into it: that of each fact of the file, variable by variable and value by value, from its rank.
+// The array with the last numbers put back into it, from their ranks: those of all facts of the file, variable by variable and value by value.
 pub fn put_back(numbers: [Est; Probe::FACTS], sizes: &[u8], ranks: &[u64]) -> [Est; Probe::FACTS]
     requires { ⌜ Roomy (now sizes) (length (now ranks)) ⌝ }
     ensures { λ r. ⌜ HasFacts (now (sizes .entry)) r (rankNumber (now (ranks .entry))) ⌝ }

@@ -60,7 +60,7 @@ by-pass-supported sizes x = record { falls = λ lower. falls-plus (capped (x .in
 
 -- ---- the bound
 
--- "Rounds go on until one changes nothing.": at most as many change something as the task has facts; the code's loop makes one more.
+-- "Rounds go on until one changes nothing.": at most as many change something as the task has facts. The code makes turns, of which this says nothing.
 pub estimate-rounds : (t : Task) (s : List ℕ) → FewRounds (t .sizes) (map (actionAchiever leastCost (t .sizes)) (t .actions)) s
 estimate-rounds t s = rounds-few (t .sizes) _ s (all-supported (actionAchiever leastCost (t .sizes)) (least-cost-supported (t .sizes)) (t .actions))
 
