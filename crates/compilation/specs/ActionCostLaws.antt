@@ -26,12 +26,12 @@ stepsPassed n a x s = startStep n a x ∷ passedFrom n a x 1 (x .nodes) 1 s
 abbrev costs : List Step → ℕ
 costs = total (λ (st : Step). st .cost)
 
-from-add-up : (n a : ℕ) (x : Action) (i : ℕ) (nodes : List Node) (at : ℕ) (s : List ℕ) → costs (passedFrom n a x i nodes at s) ≡ walkFrom i nodes at s .cost
+costs-add-up-from : (n a : ℕ) (x : Action) (i : ℕ) (nodes : List Node) (at : ℕ) (s : List ℕ) → costs (passedFrom n a x i nodes at s) ≡ walkFrom i nodes at s .cost
 unfolding walkFrom
-from-add-up n a x i [] at s = refl
-from-add-up n a x i (nd ∷ nodes) at s =
+costs-add-up-from n a x i [] at s = refl
+costs-add-up-from n a x i (nd ∷ nodes) at s =
     go (edgeAt nd s) (eqb at i) (passedFrom n a x (suc i) nodes (edgeAt nd s .target) s) (passedFrom n a x (suc i) nodes at s) (walkFrom (suc i) nodes (edgeAt nd s .target) s) (walkFrom (suc i) nodes at s)
-    (from-add-up n a x (suc i) nodes (edgeAt nd s .target) s) (from-add-up n a x (suc i) nodes at s)
+    (costs-add-up-from n a x (suc i) nodes (edgeAt nd s .target) s) (costs-add-up-from n a x (suc i) nodes at s)
   where
     go : (e : Edge) (t : Bool) (xs ys : List Step) (v w : Walk) → costs xs ≡ v .cost → costs ys ≡ w .cost
         → costs (elim t [ true ↦ edgeStep n a i (nd .var) (getD s (nd .var) 0) e ∷ xs | false ↦ ys ]) ≡ Walk.cost (elim t [ true ↦ along e v | false ↦ w ])
@@ -41,4 +41,4 @@ from-add-up n a x i (nd ∷ nodes) at s =
 -- The costs of the steps passed add up to the cost of the action.
 pub costs-add-up : (n a : ℕ) (x : Action) (s : List ℕ) → costs (stepsPassed n a x s) ≡ cost x s
 unfolding walk
-costs-add-up n a x s = ap (λ (c : ℕ). x .incoming + c) (from-add-up n a x 1 (x .nodes) 1 s)
+costs-add-up n a x s = ap (λ (c : ℕ). x .incoming + c) (costs-add-up-from n a x 1 (x .nodes) 1 s)
