@@ -63,7 +63,7 @@ fn description() -> Command {
     Command::Unknown
 }
 
-// Whether a command takes as many arguments as there are from number `first` on; a text that is left out is read from standard input.
+// Whether a command takes as many arguments as there are from number `first` on; a text that is left out is read from standard input, and `compile` may leave out both its files.
 pub fn takes(command: Command, first: u8) -> bool {
     let count = os::arg_count();
     let begin = first as usize;
@@ -71,7 +71,7 @@ pub fn takes(command: Command, first: u8) -> bool {
         Command::Unknown => false,
         Command::Check => count == begin + 1,
         Command::Show => count == begin + 1,
-        Command::Compile => count == begin + 2,
+        Command::Compile => count == begin || count == begin + 2,
         Command::Cost => begin + 2 <= count && count <= begin + 3,
         Command::Relaxed => begin + 2 <= count && count <= begin + 3,
         _ => begin + 1 <= count && count <= begin + 2,
@@ -86,4 +86,24 @@ pub fn is_about_probe(command: Command, named: bool) -> bool {
         Command::Estimate => named,
         _ => false,
     }
+}
+
+// Where a refusal goes: to standard error if standard output is there for data, as that of `compile` with a name `-`; with no names it is as document 01's program.
+pub fn refusal_stream() -> i32 {
+    match first_word() {
+        Command::Expand => libc::STDERR_FILENO,
+        Command::Contract => libc::STDERR_FILENO,
+        Command::Draw => libc::STDERR_FILENO,
+        Command::Compile => compiled_stream(),
+        _ => libc::STDOUT_FILENO,
+    }
+}
+
+// The same for `compile`, by the name that it writes to.
+fn compiled_stream() -> i32 {
+    let last = if is_word(2, b"--explain") { 4 } else { 3 };
+    if is_word(last, b"-") {
+        return libc::STDERR_FILENO;
+    }
+    libc::STDOUT_FILENO
 }

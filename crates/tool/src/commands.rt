@@ -4,13 +4,13 @@ use crate::describing::steps;
 use crate::input::read_list;
 use crate::input::read_state;
 use crate::output::count;
-use crate::output::done;
 use crate::output::estimated;
 use crate::output::failed;
 use crate::output::listed;
 use crate::output::refuse;
-use crate::output::save;
+use crate::output::reply;
 use crate::output::within16;
+use crate::saving::save;
 use carry::Carried;
 use compilation::Compiled;
 use estimate::Estimated;
@@ -37,8 +37,7 @@ pub enum Question {
 
 // `check FILE`: the file is accepted.
 pub fn accepted() {
-    io::write_all(libc::STDOUT_FILENO, b"accepted\n");
-    done();
+    reply(b"accepted\n", 9);
 }
 
 // Whether a file is accepted; if not, its refusal is said.
@@ -121,8 +120,7 @@ pub fn on_state(question: Question, file: &[u8], next: usize, explain: bool) {
 fn summed(answer: Ran, explain: bool) {
     match answer {
         Ran::Sum(sum) => {
-            count(libc::STDOUT_FILENO, b"sum", sum);
-            done();
+            count(b"sum", sum);
         }
         Ran::Refused(why) => refuse(explain, Subject::List, why),
     }
@@ -143,8 +141,7 @@ fn carried(answer: Carried, out: &[u16], subject: Subject, explain: bool) {
 fn costed(answer: Costed, subject: Subject, explain: bool) {
     match answer {
         Costed::Cost(n) => {
-            count(libc::STDOUT_FILENO, b"cost", n);
-            done();
+            count(b"cost", n);
         }
         Costed::Refused(why) => refuse(explain, subject, why),
     }

@@ -1,10 +1,9 @@
 // The commands that describe a task or a probe list in words.
 use crate::input::is_given;
 use crate::input::read_number;
-use crate::output::done;
 use crate::output::failed;
 use crate::output::refuse;
-use crate::output::write;
+use crate::output::reply;
 use report::Subject;
 use words::Described;
 
@@ -17,8 +16,7 @@ const STEPS_TEXT: usize = 524288;
 fn described(answer: Described, text: &[u8], subject: Subject, explain: bool) {
     match answer {
         Described::Length(n) => {
-            write(libc::STDOUT_FILENO, text, n);
-            done();
+            reply(text, n);
         }
         Described::Refused(why) => refuse(explain, subject, why),
     }

@@ -78,7 +78,7 @@ pub fn read_file(i: usize, buf: &mut [u8]) -> Given
     let mut more = [0; 1];
     let got = libc::read(fd, &mut more);
     if got < 0 {
-        os::fail(b"read");
+        unread(fd);
         return Given {
             ok: false,
             length: 0,
@@ -86,6 +86,14 @@ pub fn read_file(i: usize, buf: &mut [u8]) -> Given
     }
     libc::close(fd);
     Given { ok: true, length }
+}
+
+// A read has failed.
+fn unread(fd: i32) {
+    if fd == libc::STDIN_FILENO {
+        return os::fail(b"standard input");
+    }
+    os::fail(b"read");
 }
 
 // The text that argument i names.

@@ -4,6 +4,7 @@ mod commands;
 mod describing;
 mod input;
 mod output;
+mod saving;
 
 use crate::command::Command;
 use crate::commands::Question;

@@ -1,4 +1,5 @@
-// What the tool writes: answers to standard output, sums of lists and what is wrong to standard error, and a digit for the exit status to descriptor 3.
+// What the tool writes: answers to standard output, sums of lists and what is wrong to standard error, and a digit for the exit status to descriptor 3. A write that fails is told, and the status is 2.
+use crate::command::refusal_stream;
 use estimate::Est;
 use facts::Refusal;
 use report::Fault;
@@ -26,10 +27,25 @@ pub fn within16(n: usize, list: &[u16]) -> usize
     n
 }
 
-// Writes the first n bytes of a text.
-pub fn write(fd: i32, text: &[u8], n: usize) {
+// Writes the first n bytes of a text, and answers whether all of them were taken.
+fn write(fd: i32, text: &[u8], n: usize) -> bool {
     let most = within(n, text);
-    io::write_all(fd, &text[..most]);
+    io::write_all(fd, &text[..most])
+}
+
+// The first n bytes of a text are the answer.
+pub fn reply(text: &[u8], n: usize) {
+    let written = write(libc::STDOUT_FILENO, text, n);
+    end(written, b"0");
+}
+
+// The status, if all was written.
+fn end(written: bool, status: &[u8]) {
+    if !written {
+        os::fail(b"standard output");
+        return failed();
+    }
+    io::write_all(STATUS, status);
 }
 
 // All went well.
@@ -56,60 +72,42 @@ pub fn fault(why: Fault) {
 
 // A refusal, and if it is asked for a sentence that explains it.
 pub fn refuse(explain: bool, subject: Subject, why: Refusal) {
+    let to = refusal_stream();
     let mut line = [0; LINE];
     let n = report::put_refusal(&mut line, 0, why);
-    write(libc::STDOUT_FILENO, &line, n);
+    let mut written = write(to, &line, n);
     if explain {
         let mut sentence = [0; LINE];
         let m = explain::put_explanation(&mut sentence, 0, subject, why);
-        write(libc::STDOUT_FILENO, &sentence, m);
+        written = write(to, &sentence, m) && written;
     }
-    io::write_all(STATUS, b"1");
+    end(written, b"1");
 }
 
 // A number after its name.
-pub fn count(fd: i32, name: &[u8], n: u32) {
+pub fn count(name: &[u8], n: u32) {
     let mut line = [0; LINE];
     let end = report::put_count(&mut line, 0, name, n);
-    write(fd, &line, end);
+    reply(&line, end);
 }
 
 // An estimate.
 pub fn estimated(e: Est) {
     let mut line = [0; LINE];
     let n = report::put_estimate(&mut line, 0, e);
-    write(libc::STDOUT_FILENO, &line, n);
-    done();
+    reply(&line, n);
 }
 
 // A list and its sum.
 pub fn listed(list: &[u16], sum: u32) {
     let mut text = [0; LIST_TEXT];
     let n = append_list(&mut text, 0, list);
-    write(libc::STDOUT_FILENO, &text, n);
-    count(libc::STDERR_FILENO, b"sum", sum);
-    done();
-}
-
-// Bytes into the file that argument i names, which is made or emptied first; to standard output for `-`.
-pub fn save(i: usize, bytes: &[u8]) {
-    let mut name = io::buffer();
-    let length = os::arg(i, &mut name);
-    if check::same(&name[..length], b"-") {
-        io::write_all(libc::STDOUT_FILENO, bytes);
-        return done();
+    let written = write(libc::STDOUT_FILENO, &text, n);
+    if written {
+        let mut line = [0; LINE];
+        let m = report::put_count(&mut line, 0, b"sum", sum);
+        let told = write(libc::STDERR_FILENO, &line, m);
+        return end(told, b"0");
     }
-    let fd = os::open_overwrite(&name[..length]);
-    if fd < 0 {
-        os::fail(&name[..length]);
-        return failed();
-    }
-    let written = io::write_all(fd, bytes);
-    if !written {
-        os::fail(&name[..length]);
-        libc::close(fd);
-        return failed();
-    }
-    libc::close(fd);
-    done();
+    end(written, b"0");
 }
