@@ -88,7 +88,7 @@ pub fn is_about_probe(command: Command, named: bool) -> bool {
     }
 }
 
-// Where a refusal goes: to standard error if standard output is there for data, as that of `compile` with a name `-`; with no names it is as document 01's program.
+// Where a refusal goes: to standard error if standard output is there for data. With no names `compile` does as document 01's program.
 pub fn refusal_stream() -> i32 {
     match first_word() {
         Command::Expand => libc::STDERR_FILENO,

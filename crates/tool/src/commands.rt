@@ -37,7 +37,8 @@ pub enum Question {
 
 // `check FILE`: the file is accepted.
 pub fn accepted() {
-    reply(b"accepted\n", 9);
+    let text: &[u8] = b"accepted\n";
+    reply(text, text.len());
 }
 
 // Whether a file is accepted; if not, its refusal is said.

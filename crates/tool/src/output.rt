@@ -39,7 +39,7 @@ pub fn reply(text: &[u8], n: usize) {
     end(written, b"0");
 }
 
-// The status, if all was written.
+// The status, if all was written; if not, that is said.
 fn end(written: bool, status: &[u8]) {
     if !written {
         os::fail(b"standard output");
@@ -102,12 +102,8 @@ pub fn estimated(e: Est) {
 pub fn listed(list: &[u16], sum: u32) {
     let mut text = [0; LIST_TEXT];
     let n = append_list(&mut text, 0, list);
-    let written = write(libc::STDOUT_FILENO, &text, n);
-    if written {
-        let mut line = [0; LINE];
-        let m = report::put_count(&mut line, 0, b"sum", sum);
-        let told = write(libc::STDERR_FILENO, &line, m);
-        return end(told, b"0");
-    }
+    let mut line = [0; LINE];
+    let m = report::put_count(&mut line, 0, b"sum", sum);
+    let written = write(libc::STDOUT_FILENO, &text, n) && write(libc::STDERR_FILENO, &line, m);
     end(written, b"0");
 }
