@@ -1,7 +1,9 @@
 /* Jafrelin: planning tasks with decision-diagram costs, compiled to probe files; every function is proved to meet its contract (crates/jafrelin).
+ * libjafrelin.a is for x86-64 and the System V calling convention. It calls memcpy and memset, and nothing else.
  *
  * A file is bytes; a state has one byte for each variable; a relaxed state too, with bit d for value d; a list is a row of numbers, one an action or a
- * step. Nothing is kept between calls. Only the output buffers are written, and by a refusal not even these. An empty slice may come with any pointer.
+ * step. Nothing is kept between calls, so that threads may call at the same time. Only the output buffers are written, and by a refusal not even these.
+ * Slices of one call must not overlap: the proofs are about memory that no two of them share. An empty slice may come with any pointer.
  *
  * The result of every function:
  *   bits 63 to 56   the refusal's number, 1 to 12; 0 for success
@@ -18,21 +20,63 @@
 extern "C" {
 #endif
 
+#define JAFRELIN_VERSION "1.0"
+
 /* The parts of a result. */
 #define JAFRELIN_REFUSAL(result) ((unsigned)((result) >> 56))
 #define JAFRELIN_LENGTH(result) ((uint32_t)((result) >> 32 & 0xffffff))
 #define JAFRELIN_SUM(result) ((uint32_t)(result))
 #define JAFRELIN_PLACE(result) ((uint32_t)(result))
 
+/* The refusals, each with its place. */
+enum jafrelin_refusal {
+    JAFRELIN_ENDS = 1,     /* the file ends before or inside a field: the field's first byte */
+    JAFRELIN_TRAILING = 2, /* bytes follow the last field: the first of them */
+    JAFRELIN_RANGE = 3,    /* a count or a domain size is outside its range, or there are too many nodes: its byte */
+    JAFRELIN_OUTSIDE = 4,  /* a value is outside its domain; a relaxed set is empty or has a stray bit: its byte, in a state the variable */
+    JAFRELIN_STRAY = 5,    /* a map has a bit for no variable: the map's first byte */
+    JAFRELIN_DIAGRAM = 6,  /* a node's variable or target is against the rules: its byte */
+    JAFRELIN_SHORT = 7,    /* the output buffer is shorter than the result: the length needed */
+    JAFRELIN_LONG = 8,     /* a list is over its limit, or contracting would give too many actions: the limit, or the first start too many */
+    JAFRELIN_BLOCKED = 9,  /* a step does not apply: its index */
+    JAFRELIN_UNMET = 10,   /* the goal is not met at the end: the list's length */
+    JAFRELIN_MISSING = 11, /* there is no such action or step: its index, 0 for an action number */
+    JAFRELIN_WIDTH = 12    /* a state's length is not the number of variables: 0 */
+};
+
 /* What an estimate's JAFRELIN_LENGTH says of its number. */
 #define JAFRELIN_EXACT 0
 #define JAFRELIN_OVER 1
 #define JAFRELIN_NEVER 2
 
-/* The most bytes that jafrelin_compile writes, and the most entries that jafrelin_expand and jafrelin_contract write. */
-#define JAFRELIN_PROBE_BYTES 13846
-#define JAFRELIN_PROBE_STEPS 6656
-#define JAFRELIN_PLAN_ACTIONS 256
+/* The limits of a task file, and of a list of actions. */
+#define JAFRELIN_TASK_MAX_VARIABLES 24
+#define JAFRELIN_TASK_MAX_VALUES 8
+#define JAFRELIN_TASK_MAX_ACTIONS 32
+#define JAFRELIN_TASK_MAX_NODES 64
+#define JAFRELIN_TASK_MAX_BYTES 3826
+#define JAFRELIN_TASK_MAX_LIST 256
+
+/* The limits of a probe file, and of a list of steps; the most bytes that are written for a task. */
+#define JAFRELIN_PROBE_MAX_VARIABLES 57
+#define JAFRELIN_PROBE_MAX_VALUES 66
+#define JAFRELIN_PROBE_MAX_STEPS 576
+#define JAFRELIN_PROBE_MAX_BYTES 76214
+#define JAFRELIN_PROBE_MAX_LIST 6656
+#define JAFRELIN_PROBE_MAX_WRITTEN 13846
+
+/* The stack that a function needs at most, in bytes, beside what memcpy and memset need; docs/PERFORMANCE.md says how it was measured. */
+#define JAFRELIN_STACK_CHECK_TASK 4096
+#define JAFRELIN_STACK_CHECK_PROBE 8192
+#define JAFRELIN_STACK_COST 4096
+#define JAFRELIN_STACK_RELAXED_COST 4096
+#define JAFRELIN_STACK_RUN_TASK 4096
+#define JAFRELIN_STACK_RUN_PROBE 8192
+#define JAFRELIN_STACK_ESTIMATE_TASK 49152
+#define JAFRELIN_STACK_ESTIMATE_PROBE 69632
+#define JAFRELIN_STACK_COMPILE 4096
+#define JAFRELIN_STACK_EXPAND 20480
+#define JAFRELIN_STACK_CONTRACT 24576
 
 /* Whether a file is accepted. */
 uint64_t jafrelin_check_task(const uint8_t *file, size_t file_len);

@@ -1,0 +1,50 @@
+/* Compiles a task file, carries a plan across to the probe file and back, and compares the sums.
+ *
+ *   rt staticlib jafrelin
+ *   cc -Iinclude examples/carry.c target/staticlib/libjafrelin.a -o carry
+ *   ./carry examples/breakpoints.task 0 1 2 3 4 5 6
+ */
+#include <jafrelin.h>
+#include <stdio.h>
+#include <stdlib.h>
+
+/* One byte more than a task file has, so that a longer file is refused. */
+static uint8_t task[JAFRELIN_TASK_MAX_BYTES + 1];
+static uint8_t probe[JAFRELIN_PROBE_MAX_WRITTEN];
+static uint16_t plan[JAFRELIN_TASK_MAX_LIST + 1], back[JAFRELIN_TASK_MAX_LIST];
+static uint16_t steps[JAFRELIN_PROBE_MAX_LIST];
+
+/* The result, if it is no refusal. */
+static uint64_t accepted(uint64_t result)
+{
+    if (JAFRELIN_REFUSAL(result)) {
+        printf("refused %u at %u\n", JAFRELIN_REFUSAL(result), (unsigned)JAFRELIN_PLACE(result));
+        exit(1);
+    }
+    return result;
+}
+
+int main(int argc, char **argv)
+{
+    FILE *in = argc > 1 ? fopen(argv[1], "rb") : NULL;
+    if (!in) {
+        fprintf(stderr, "usage: carry TASK [ACTION..]\n");
+        return 2;
+    }
+    size_t task_len = fread(task, 1, sizeof task, in);
+    fclose(in);
+    size_t actions = 0;
+    for (int i = 2; i < argc && actions <= JAFRELIN_TASK_MAX_LIST; i++)
+        plan[actions++] = (uint16_t)strtoul(argv[i], NULL, 10);
+
+    size_t probe_len = JAFRELIN_LENGTH(accepted(jafrelin_compile(task, task_len, probe, sizeof probe)));
+    uint64_t there = accepted(jafrelin_expand(task, task_len, plan, actions, steps, JAFRELIN_PROBE_MAX_LIST));
+    size_t count = JAFRELIN_LENGTH(there);
+    uint64_t followed = accepted(jafrelin_run_probe(probe, probe_len, steps, count));
+    uint64_t home = accepted(jafrelin_contract(task, task_len, steps, count, back, JAFRELIN_TASK_MAX_LIST));
+
+    printf("%zu bytes, %zu steps, sum %u\n", probe_len, count, (unsigned)JAFRELIN_SUM(there));
+    for (size_t i = 0; i < count; i++)
+        printf("%u%c", (unsigned)steps[i], i + 1 < count ? ' ' : '\n');
+    return JAFRELIN_SUM(there) != JAFRELIN_SUM(followed) || JAFRELIN_SUM(there) != JAFRELIN_SUM(home) || JAFRELIN_LENGTH(home) != actions;
+}
