@@ -6,11 +6,12 @@ use walk::diagram_at;
 use walk::edge_for;
 use walk::own_nodes;
 use words::parts::put_numbered;
-ghost use Prim.Native.Nat.{_+_, _-_, _≤_};
+ghost use mathlib.Core.Path.{_≡_};
+ghost use Prim.Native.Nat.{_+_, _-_, _≤_, _<_};
 ghost use lib.ListN.{length};
-ghost use Rattle.taskfile.specs.PartsInPlace.{nodeIn, actionIn};
+ghost use Rattle.taskfile.specs.PartsInPlace.{edgesIn, nodeIn, actionIn};
 ghost use Rattle.text.specs.Append.{Adds};
-ghost use Rattle.words.specs.Dot.{nodeName, dotEdge, dotNode, dotEntry, dotAction};
+ghost use Rattle.words.specs.Dot.{nodeName, alike, isAmong, alsoText, dotEdge, dotNode, dotEntry, dotAction};
 ghost use Rattle.words.specs.Rows.{rowFrom, AddsTwo, edgeFor, nodeFor, actionFor, drawing};
 
 // All actions from number `from` up to `end`, in one drawing, by the row of the index.
@@ -80,8 +81,8 @@ fn put_entry(out: &mut [u8], at: usize, a: usize, incoming: u32) -> usize
     let label = put_numbered(out, name, b" [shape=plaintext, label=\"action ", a as u64);
     let from = put_numbered(out, label, b"\"];\n  a", a as u64);
     let to = put_name(out, from, b" -> ", a, 1);
-    let weight = put_numbered(out, to, b" [label=\"+", incoming as u64);
-    append(out, weight, b"\"];\n")
+    let weight = put_numbered(out, to, b" [label=\" +", incoming as u64);
+    append(out, weight, b" \"];\n")
 }
 
 // A label, and node i of action a by its name.
@@ -128,8 +129,9 @@ fn put_vertex(
 {
     let variable = byte_at(file, node);
     let name = put_name(out, at, b"  ", a, i);
-    let label = put_numbered(out, name, b" [label=\"variable ", variable as u64);
-    let line = append(out, label, b"\"];\n");
+    let number = put_numbered(out, name, b" [label=\"node ", i as u64);
+    let tests = put_numbered(out, number, b"\\nvariable ", variable as u64);
+    let line = append(out, tests, b"\"];\n");
     put_arrows(
         out,
         line,
@@ -151,33 +153,89 @@ fn put_arrows(
     a: usize,
     i: usize,
 ) -> usize
-    ensures { λ r. ⌜ Adds (rowFrom (λ d. dotEdge a i d (edgeFor (now (file .entry)) node d)) 0 count) (now (out .entry)) (now (out .exit)) at r ⌝ }
+    ensures { λ r. ⌜ Adds (rowFrom (λ d. dotEdge a i (edgesIn (now (file .entry)) (node + 1) count) d (edgeFor (now (file .entry)) node d)) 0 count) (now (out .entry)) (now (out .exit)) at r ⌝ }
 {
     let mut end = at;
     let mut d: u8 = 0;
     while d < count {
-        let edge = edge_for(file, node, d);
-        end = put_arrow(out, end, a, i, d, edge.target, edge.weight);
+        end = put_edge(out, end, file, node, count, a, i, d);
         d += 1;
     }
     end
 }
 
-// The edge for the value d.
-fn put_arrow(
+// The edge for the value d: one arrow for it and for those like it that follow, and none where one like it came before.
+fn put_edge(
     out: &mut [u8],
     at: usize,
+    file: &[u8],
+    node: usize,
+    count: u8,
     a: usize,
     i: usize,
     d: u8,
-    target: usize,
-    weight: u32,
 ) -> usize
-    ensures { λ r. ⌜ Adds (dotEdge a i d (record { target = target; weight = weight })) (now (out .entry)) (now (out .exit)) at r ⌝ }
+    requires { ⌜ d < count ⌝ }
+    ensures { λ r. ⌜ Adds (dotEdge a i (edgesIn (now (file .entry)) (node + 1) count) d (edgeFor (now (file .entry)) node d)) (now (out .entry)) (now (out .exit)) at r ⌝ }
 {
+    if came_before(file, node, d) {
+        return at;
+    }
+    let edge = edge_for(file, node, d);
     let from = put_name(out, at, b"  ", a, i);
-    let to = put_name(out, from, b" -> ", a, target);
-    let value = put_numbered(out, to, b" [label=\"", d as u64);
-    let adds = put_numbered(out, value, b": +", weight as u64);
-    append(out, adds, b"\"];\n")
+    let to = put_name(out, from, b" -> ", a, edge.target);
+    let value = put_numbered(out, to, b" [label=\" ", d as u64);
+    let values = put_others(out, value, file, node, d, count);
+    let adds = put_numbered(out, values, b": +", edge.weight as u64);
+    append(out, adds, b" \"];\n")
+}
+
+// Whether one like the edge for the value d came before it.
+fn came_before(file: &[u8], node: usize, d: u8) -> bool
+    ensures { λ r. ⌜ r ≡ isAmong (edgeFor (now (file .entry)) node d) (edgesIn (now (file .entry)) (node + 1) d) ⌝ }
+{
+    let mut j: u8 = 0;
+    while j < d {
+        if are_alike(file, node, d, j) {
+            return true;
+        }
+        j += 1;
+    }
+    false
+}
+
+// Whether the edges for two values lead to the same node with the same weight.
+fn are_alike(file: &[u8], node: usize, d: u8, j: u8) -> bool
+    ensures { λ r. ⌜ r ≡ alike (edgeFor (now (file .entry)) node d) (edgeFor (now (file .entry)) node j) ⌝ }
+{
+    let edge = edge_for(file, node, d);
+    let other = edge_for(file, node, j);
+    if edge.target != other.target {
+        return false;
+    }
+    edge.weight == other.weight
+}
+
+// The values above d, below `count`, whose edges are like that for d.
+fn put_others(out: &mut [u8], at: usize, file: &[u8], node: usize, d: u8, count: u8) -> usize
+    requires { ⌜ d < count ⌝ }
+    ensures { λ r. ⌜ Adds (rowFrom (λ j. alsoText (edgeFor (now (file .entry)) node d) j (edgeFor (now (file .entry)) node j)) (d + 1) (count - (d + 1))) (now (out .entry)) (now (out .exit)) at r ⌝ }
+{
+    let mut end = at;
+    let mut j = d + 1;
+    while j < count {
+        end = put_other(out, end, file, node, d, j);
+        j += 1;
+    }
+    end
+}
+
+// The value j after a comma, if its edge is like that for d.
+fn put_other(out: &mut [u8], at: usize, file: &[u8], node: usize, d: u8, j: u8) -> usize
+    ensures { λ r. ⌜ Adds (alsoText (edgeFor (now (file .entry)) node d) j (edgeFor (now (file .entry)) node j)) (now (out .entry)) (now (out .exit)) at r ⌝ }
+{
+    if are_alike(file, node, d, j) {
+        return put_numbered(out, at, b",", j as u64);
+    }
+    at
 }

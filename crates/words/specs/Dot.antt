@@ -1,7 +1,9 @@
 -- The cost diagrams of a task for Graphviz.
 use Prim.Native.Nat.{ℕ, suc}
-use mathlib.Core.List.{List, _++_}
-use lib.ListN.{length}
+use mathlib.Core.Bool.{Bool, true, false, _&&_}
+use mathlib.Core.List.{List, [], _∷_, _++_}
+use lib.Dec.{eqb}
+use lib.ListN.{length, take, drop}
 use Rattle.taskfile.specs.Task.{Edge, Node, Action}
 use Rattle.compilation.specs.Compile.{flat}
 use Rattle.text.specs.Text.{decimal}
@@ -11,13 +13,36 @@ use Rattle.text.specs.Append.{bytes}
 abbrev pub nodeName : ℕ → ℕ → List ℕ
 nodeName a i = bytes "a" ++ (decimal a ++ (bytes "n" ++ decimal i))
 
--- the edge of node i for the value d
-abbrev pub dotEdge : ℕ → ℕ → ℕ → Edge → List ℕ
-dotEdge a i d e = bytes "  " ++ (nodeName a i ++ (bytes " -> " ++ (nodeName a (e .target) ++ (bytes " [label=\"" ++ (decimal d ++ (bytes ": +" ++ (decimal (e .weight) ++ bytes "\"];\n")))))))
+-- whether two edges lead to the same node with the same weight
+abbrev pub alike : Edge → Edge → Bool
+alike e g = eqb (e .target) (g .target) && eqb (e .weight) (g .weight)
+
+-- whether one of these edges is like e
+abbrev pub isAmong : Edge → List Edge → Bool
+isAmong e [] = false
+isAmong e (g ∷ edges) = elim (alike e g) [ true ↦ true | false ↦ isAmong e edges ]
+
+-- the value d after a comma, if its edge g is like e
+abbrev pub alsoText : Edge → ℕ → Edge → List ℕ
+alsoText e d g = elim (alike e g) [ true ↦ bytes "," ++ decimal d | false ↦ [] ]
+
+-- the arrow of the edge e of node i, for the value d and others
+abbrev pub dotArrow : ℕ → ℕ → ℕ → Edge → List ℕ → List ℕ
+dotArrow a i d e others =
+    bytes "  "
+    ++ (nodeName a i
+    ++ (bytes " -> " ++ (nodeName a (e .target) ++ (bytes " [label=\" " ++ (decimal d ++ (others ++ (bytes ": +" ++ (decimal (e .weight) ++ bytes " \"];\n"))))))))
+
+-- the edge e for the value d, of all edges of node i: one arrow for it and for those like it that follow, and none where one like it came before
+abbrev pub dotEdge : ℕ → ℕ → List Edge → ℕ → Edge → List ℕ
+dotEdge a i edges d e = elim (isAmong e (take d edges)) [ true ↦ [] | false ↦ dotArrow a i d e (flat (alsoText e) (suc d) (drop (suc d) edges)) ]
 
 -- node i
 abbrev pub dotNode : ℕ → ℕ → Node → List ℕ
-dotNode a i nd = bytes "  " ++ (nodeName a i ++ (bytes " [label=\"variable " ++ (decimal (nd .var) ++ (bytes "\"];\n" ++ flat (dotEdge a i) 0 (nd .edges)))))
+dotNode a i nd =
+    bytes "  "
+    ++ (nodeName a i
+    ++ (bytes " [label=\"node " ++ (decimal i ++ (bytes "\\nvariable " ++ (decimal (nd .var) ++ (bytes "\"];\n" ++ flat (dotEdge a i (nd .edges)) 0 (nd .edges)))))))
 
 -- action a: its name, and the edge into node 1
 abbrev pub dotEntry : ℕ → ℕ → List ℕ
@@ -26,7 +51,7 @@ dotEntry a incoming =
     ++ (decimal a
     ++ (bytes " [shape=plaintext, label=\"action "
     ++ (decimal a
-    ++ (bytes "\"];\n  a" ++ (decimal a ++ (bytes " -> " ++ (nodeName a 1 ++ (bytes " [label=\"+" ++ (decimal incoming ++ bytes "\"];\n")))))))))
+    ++ (bytes "\"];\n  a" ++ (decimal a ++ (bytes " -> " ++ (nodeName a 1 ++ (bytes " [label=\" +" ++ (decimal incoming ++ bytes " \"];\n")))))))))
 
 -- its terminal, by number
 abbrev pub dotEnd : ℕ → ℕ → List ℕ

@@ -1,14 +1,15 @@
 -- Task P of document 01 and a task of two variables and two actions in words, and their cost diagrams.
 use mathlib.Core.Path.{_≡_, refl}
-use mathlib.Core.List.{[], _∷_, _++_}
+use mathlib.Core.List.{List, [], _∷_, _++_}
 use Rattle.facts.specs.Read.{accepted, refused}
 use Rattle.facts.specs.Write.{over, fitting, lengthIn, writtenIn}
-use Rattle.taskfile.specs.Task.{Task}
+use Rattle.taskfile.specs.Task.{Edge, Task}
+use Rattle.compilation.specs.Compile.{flat}
 use Rattle.text.specs.Text.{decimal}
 use Rattle.text.specs.Append.{bytes}
 use Rattle.words.specs.Words.{partialText}
 use Rattle.words.specs.Show.{targetText, taskText}
-use Rattle.words.specs.Dot.{dotText}
+use Rattle.words.specs.Dot.{dotEdge, dotText}
 
 -- task P
 abbrev pub taskP : Task
@@ -30,7 +31,7 @@ in-words : taskText taskP ≡ bytes "variable 0: 2 values, starts at 0\ngoal: 0=
 unfolding taskText partialText targetText decimal
 in-words = refl
 
-drawing : dotText 0 (taskP .actions) ≡ bytes "digraph costs {\n  a0 [shape=plaintext, label=\"action 0\"];\n  a0 -> a0n1 [label=\"+3\"];\n  a0n1 [label=\"variable 0\"];\n  a0n1 -> a0n2 [label=\"0: +5\"];\n  a0n1 -> a0n2 [label=\"1: +0\"];\n  a0n2 [shape=box, label=\"end\"];\n}\n"
+drawing : dotText 0 (taskP .actions) ≡ bytes "digraph costs {\n  a0 [shape=plaintext, label=\"action 0\"];\n  a0 -> a0n1 [label=\" +3 \"];\n  a0n1 [label=\"node 1\\nvariable 0\"];\n  a0n1 -> a0n2 [label=\" 0: +5 \"];\n  a0n1 -> a0n2 [label=\" 1: +0 \"];\n  a0n2 [shape=box, label=\"end\"];\n}\n"
 unfolding dotText decimal
 drawing = refl
 
@@ -63,9 +64,17 @@ two-in-words : taskText taskTwo ≡ bytes "variable 0: 2 values, starts at 0\nva
 unfolding taskText partialText targetText decimal
 two-in-words = refl
 
-two-drawn : dotText 0 (taskTwo .actions) ≡ bytes "digraph costs {\n  a0 [shape=plaintext, label=\"action 0\"];\n  a0 -> a0n1 [label=\"+3\"];\n  a0n1 [label=\"variable 0\"];\n  a0n1 -> a0n2 [label=\"0: +5\"];\n  a0n1 -> a0n3 [label=\"1: +0\"];\n  a0n2 [label=\"variable 1\"];\n  a0n2 -> a0n3 [label=\"0: +0\"];\n  a0n2 -> a0n3 [label=\"1: +1\"];\n  a0n2 -> a0n3 [label=\"2: +7\"];\n  a0n3 [shape=box, label=\"end\"];\n  a1 [shape=plaintext, label=\"action 1\"];\n  a1 -> a1n1 [label=\"+10\"];\n  a1n1 [label=\"variable 1\"];\n  a1n1 -> a1n2 [label=\"0: +4\"];\n  a1n1 -> a1n2 [label=\"1: +0\"];\n  a1n1 -> a1n2 [label=\"2: +12\"];\n  a1n2 [shape=box, label=\"end\"];\n}\n"
+two-drawn : dotText 0 (taskTwo .actions) ≡ bytes "digraph costs {\n  a0 [shape=plaintext, label=\"action 0\"];\n  a0 -> a0n1 [label=\" +3 \"];\n  a0n1 [label=\"node 1\\nvariable 0\"];\n  a0n1 -> a0n2 [label=\" 0: +5 \"];\n  a0n1 -> a0n3 [label=\" 1: +0 \"];\n  a0n2 [label=\"node 2\\nvariable 1\"];\n  a0n2 -> a0n3 [label=\" 0: +0 \"];\n  a0n2 -> a0n3 [label=\" 1: +1 \"];\n  a0n2 -> a0n3 [label=\" 2: +7 \"];\n  a0n3 [shape=box, label=\"end\"];\n  a1 [shape=plaintext, label=\"action 1\"];\n  a1 -> a1n1 [label=\" +10 \"];\n  a1n1 [label=\"node 1\\nvariable 1\"];\n  a1n1 -> a1n2 [label=\" 0: +4 \"];\n  a1n1 -> a1n2 [label=\" 1: +0 \"];\n  a1n1 -> a1n2 [label=\" 2: +12 \"];\n  a1n2 [shape=box, label=\"end\"];\n}\n"
 unfolding dotText decimal
 two-drawn = refl
+
+-- the edges of the values 0 and 2 lead to the same node with the same weight, the other two agree with them in one of both
+abbrev fourEdges : List Edge
+fourEdges = record { target = 2; weight = 0 } ∷ record { target = 3; weight = 0 } ∷ record { target = 2; weight = 0 } ∷ record { target = 2; weight = 7 } ∷ []
+
+as-one-arrow : flat (dotEdge 0 1 fourEdges) 0 fourEdges ≡ bytes "  a0n1 -> a0n2 [label=\" 0,2: +0 \"];\n  a0n1 -> a0n3 [label=\" 1: +0 \"];\n  a0n1 -> a0n2 [label=\" 3: +7 \"];\n"
+unfolding decimal
+as-one-arrow = refl
 
 -- a text in a buffer that is shorter, and in one that is longer
 short : lengthIn 3 (accepted (bytes "text")) ≡ refused 7 4

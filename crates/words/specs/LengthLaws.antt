@@ -7,7 +7,7 @@ use mathlib.Core.List.{List, [], _∷_, _++_}
 use native.Mathlib.Omega.{arith}
 use native.Mathlib.Nat.{mul-suc, mul-add}
 use lib.Dec.{leb}
-use lib.ListN.{length, getD, getElem?, length-append}
+use lib.ListN.{length, getD, getElem?, take, drop, length-append, length-drop}
 use Rattle.facts.specs.Read.{accepted, refused, _>>=_}
 use Rattle.facts.specs.ReadLaws.{not-refused, made, through}
 use Rattle.facts.specs.Lists.{total, At, here, there}
@@ -26,7 +26,7 @@ use Rattle.text.specs.Append.{bytes}
 use Rattle.text.specs.PrintLaws.{digits-most}
 use Rattle.words.specs.Words.{bitText, factsText, someText, partialText}
 use Rattle.words.specs.Show.{variableText, targetText, edgeText, nodeText, actionText, taskText}
-use Rattle.words.specs.Dot.{dotEdge, dotNode, dotEntry, dotEnd, dotAction, dotText}
+use Rattle.words.specs.Dot.{alike, isAmong, alsoText, dotArrow, dotEdge, dotNode, dotEntry, dotEnd, dotAction, dotText}
 use Rattle.words.specs.DescribeFile.{shown, drawn, drawnAction}
 
 -- the most bytes of a text about a task
@@ -103,8 +103,29 @@ edge-most m d e l k w = simp length-append (omega (arith, two d l, five (e .weig
 
 -- ---- for Graphviz
 
-arrow-most : (a i d : ℕ) (e : Edge) → a < 100 → i < 100 → d < 100 → e .target < 100 → e .weight ≤ 65535 → length (dotEdge a i d e) ≤ 45
-arrow-most a i d e la li ld k w = simp length-append (omega (arith, two a la, two i li, two d ld, two (e .target) k, five (e .weight) w))
+also-most : (e : Edge) (d : ℕ) (g : Edge) → d < 100 → length (alsoText e d g) ≤ 3
+also-most e d g l = go (alike e g)
+  where
+    go : (t : Bool) → length {A = ℕ} (elim t [ true ↦ bytes "," ++ decimal d | false ↦ [] ]) ≤ 3
+    go true = omega (arith, two d l)
+    go false = omega arith
+
+-- an arrow with at most 8 values
+arrow-most : (a i d : ℕ) (e : Edge) (others : List ℕ) → a < 100 → i < 100 → d < 100 → e .target < 100 → e .weight ≤ 65535 → length others ≤ 24 → length (dotArrow a i d e others) ≤ 70
+arrow-most a i d e others la li ld k w o = simp length-append (omega (arith, two a la, two i li, two d ld, two (e .target) k, five (e .weight) w))
+
+same-most : (a i : ℕ) (edges : List Edge) (d : ℕ) (e : Edge) → length edges ≤ 8 → a < 100 → i < 100 → d < 8 → e .target < 100 → e .weight ≤ 65535 → length (dotEdge a i edges d e) ≤ 70
+same-most a i edges d e few la li ld k w = go (isAmong e (take d edges))
+  where
+    later : length (drop (suc d) edges) ≤ 8
+    later = omega (arith, length-drop (suc d) edges)
+
+    others : length (flat (alsoText e) (suc d) (drop (suc d) edges)) ≤ 24
+    others = omega (arith, later, flat-each (alsoText e) 3 (suc d) (drop (suc d) edges) (λ j q g o s. also-most e q g (omega (arith, at-length o, later))))
+
+    go : (t : Bool) → length {A = ℕ} (elim t [ true ↦ [] | false ↦ dotArrow a i d e (flat (alsoText e) (suc d) (drop (suc d) edges)) ]) ≤ 70
+    go true = omega arith
+    go false = arrow-most a i d e (flat (alsoText e) (suc d) (drop (suc d) edges)) la li (omega arith) k w others
 
 entry-most : (a incoming : ℕ) → a < 100 → incoming ≤ 65535 → length (dotEntry a incoming) ≤ 80
 entry-most a incoming l w = simp length-append (omega (arith, two a l, two 1 (omega arith), five incoming w))
@@ -146,15 +167,15 @@ module _ {t : Task} (ok : AcceptedTask t) where
         pub weight-small : e .weight ≤ 65535
         weight-small = ok .weights h .edges o u
 
-      -- The node: its edges have 8 times 40 bytes, or 8 times 45.
+      -- The node: its edges have 8 times 40 bytes, or 8 times 70.
       node-most : (i m : ℕ) → i < 100 → length (nodeText m i nd) ≤ 350
       node-most i m l =
           let edges = flat-each (edgeText m) 40 0 (nd .edges) (λ d q e u s. edge-most m q e (omega (arith, value-small u)) (target-small u) (weight-small u)) in
           simp length-append (omega (arith, two i l, two (nd .var) variable-small, few-edges, edges))
 
-      vertex-most : (i : ℕ) → i < 100 → length (dotNode a i nd) ≤ 400
+      vertex-most : (i : ℕ) → i < 100 → length (dotNode a i nd) ≤ 620
       vertex-most i l =
-          let edges = flat-each (dotEdge a i) 45 0 (nd .edges) (λ d q e u s. arrow-most a i q e number-small l (omega (arith, value-small u)) (target-small u) (weight-small u)) in
+          let edges = flat-each (dotEdge a i (nd .edges)) 70 0 (nd .edges) (λ d q e u s. same-most a i (nd .edges) q e few-edges number-small l (omega (arith, at-length u, few-edges)) (target-small u) (weight-small u)) in
           simp length-append (omega (arith, two a number-small, two i l, two (nd .var) variable-small, few-edges, edges))
 
     -- The action.
@@ -172,9 +193,9 @@ module _ {t : Task} (ok : AcceptedTask t) where
           nodes,
         ))
 
-    diagram-most : length (dotAction a x) ≤ 120 + 400 * length (x .nodes)
+    diagram-most : length (dotAction a x) ≤ 120 + 620 * length (x .nodes)
     diagram-most =
-        let nodes = flat-each (dotNode a) 400 1 (x .nodes) (λ j q nd o s. vertex-most o q (omega (arith, at-length o, few-nodes))) in
+        let nodes = flat-each (dotNode a) 620 1 (x .nodes) (λ j q nd o s. vertex-most o q (omega (arith, at-length o, few-nodes))) in
         omega (
           arith,
           length-append (dotEntry a (x .incoming)) (flat (dotNode a) 1 (x .nodes) ++ dotEnd a (suc (length (x .nodes)))),
@@ -202,7 +223,7 @@ module _ {t : Task} (ok : AcceptedTask t) where
   drawing-most : length (dotText 0 (t .actions)) ≤ mostText
   unfolding dotText
   drawing-most =
-      let actions = flat-most dotAction 120 400 (λ x. length (x .nodes)) 0 (t .actions) (λ j q x o e. let same : j ≡ q = omega arith in subst (λ (k : ℕ). length (dotAction k x) ≤ 120 + 400 * length (x .nodes)) same (diagram-most o)) in
+      let actions = flat-most dotAction 120 620 (λ x. length (x .nodes)) 0 (t .actions) (λ j q x o e. let same : j ≡ q = omega arith in subst (λ (k : ℕ). length (dotAction k x) ≤ 120 + 620 * length (x .nodes)) same (diagram-most o)) in
       simp length-append (omega (arith, actions, ok .limits .actions, ok .limits .nodes))
 
   -- One of them.
