@@ -21,10 +21,6 @@ use Rattle.words.specs.RowLaws.{edges-row, edges-text, nodes-row}
 
 -- ---- edges
 
--- An edge by its parts.
-pub edge-as : (e : Edge) {target weight : ℕ} → target ≡ e .target → weight ≡ e .weight → _≡_ {A = Edge} (record { target = target; weight = weight }) e
-edge-as e t w = λ k. record { target = t k; weight = w k }
-
 -- Two edges by their parts, one test after the other.
 module _ (e g : Edge) {target other : ℕ} (t : target ≡ e .target) (o : other ≡ g .target) where
   pub apart : (target ≡ other → ⊥) → false ≡ alike e g

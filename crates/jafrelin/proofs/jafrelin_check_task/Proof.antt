@@ -1,6 +1,6 @@
 -- `jafrelin_check_task` meets its contract: the answer of the operation, packed. Assumes nothing.
 use mathlib.Core.Path.{ap, _∙_}
-use Rattle.jafrelin.specs.Packing.{packedCheck}
+use Rattle.packing.specs.Packing.{packedCheck}
 use borrow.Author.Needs.{needs}
 use Rattle.jafrelin.proofs.jafrelin_check_task.Statement.{statement}
 use Rattle.jafrelin.proofs.jafrelin_check_task.Tie as tie

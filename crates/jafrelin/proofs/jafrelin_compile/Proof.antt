@@ -1,6 +1,6 @@
 -- `jafrelin_compile` meets its contract: the answer of the operation, packed, and its buffer. Assumes nothing.
 use mathlib.Core.Path.{ap, _∙_}
-use Rattle.jafrelin.specs.Packing.{packedLength}
+use Rattle.packing.specs.Packing.{packedLength}
 use borrow.Author.Needs.{needs}
 use Rattle.jafrelin.proofs.jafrelin_compile.Statement.{statement}
 use Rattle.jafrelin.proofs.jafrelin_compile.Tie as tie

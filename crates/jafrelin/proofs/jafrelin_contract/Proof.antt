@@ -1,6 +1,6 @@
 -- `jafrelin_contract` meets its contract: the answer of the operation, packed, and its buffer. Assumes nothing.
 use mathlib.Core.Path.{ap, _∙_}
-use Rattle.jafrelin.specs.Packing.{packedList}
+use Rattle.packing.specs.Packing.{packedList}
 use borrow.Author.Needs.{needs}
 use Rattle.jafrelin.proofs.jafrelin_contract.Statement.{statement}
 use Rattle.jafrelin.proofs.jafrelin_contract.Tie as tie

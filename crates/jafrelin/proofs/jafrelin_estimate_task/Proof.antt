@@ -1,6 +1,6 @@
 -- `jafrelin_estimate_task` meets its contract: the answer of the operation, packed. Assumes nothing.
 use mathlib.Core.Path.{ap, _∙_}
-use Rattle.jafrelin.specs.Packing.{packedEstimate}
+use Rattle.packing.specs.Packing.{packedEstimate}
 use borrow.Author.Needs.{needs}
 use Rattle.jafrelin.proofs.jafrelin_estimate_task.Statement.{statement}
 use Rattle.jafrelin.proofs.jafrelin_estimate_task.Tie as tie

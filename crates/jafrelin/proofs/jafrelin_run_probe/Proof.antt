@@ -1,6 +1,6 @@
 -- `jafrelin_run_probe` meets its contract: the answer of the operation, packed. Assumes nothing.
 use mathlib.Core.Path.{ap, _∙_}
-use Rattle.jafrelin.specs.Packing.{packedSum}
+use Rattle.packing.specs.Packing.{packedSum}
 use borrow.Author.Needs.{needs}
 use Rattle.jafrelin.proofs.jafrelin_run_probe.Statement.{statement}
 use Rattle.jafrelin.proofs.jafrelin_run_probe.Tie as tie

@@ -1,10 +1,10 @@
--- `jafrelin::pack::carried` meets its contract: each case is packed as its meaning is. Assumes nothing.
+-- `packing::carried` meets its contract: each case is packed as its meaning is. Assumes nothing.
 use mathlib.Core.Path.{sym, ap, _∙_}
 use Rattle.carry.specs.Answers.{carriedAnswer}
-use Rattle.jafrelin.specs.Packing.{packedList}
+use Rattle.packing.specs.Packing.{packedList}
 use borrow.Author.Needs.{needs}
-use Rattle.jafrelin.proofs.pack.carried.Statement.{statement}
-use Rattle.jafrelin.proofs.pack.carried.Tie as tie
+use Rattle.packing.proofs.carried.Statement.{statement}
+use Rattle.packing.proofs.carried.Tie as tie
 
 returns : tie.Need-returns
 returns c = c .pack .ensures ∙ ap (λ a. packedList (carriedAnswer a)) (sym (c .before .before .answer .given .1))

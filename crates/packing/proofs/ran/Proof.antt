@@ -1,10 +1,10 @@
--- `jafrelin::pack::ran` meets its contract: each case is packed as its meaning is. Assumes nothing.
+-- `packing::ran` meets its contract: each case is packed as its meaning is. Assumes nothing.
 use mathlib.Core.Path.{sym, ap, _∙_}
 use Rattle.facts.specs.Answers.{ranAnswer}
-use Rattle.jafrelin.specs.Packing.{packedSum}
+use Rattle.packing.specs.Packing.{packedSum}
 use borrow.Author.Needs.{needs}
-use Rattle.jafrelin.proofs.pack.ran.Statement.{statement}
-use Rattle.jafrelin.proofs.pack.ran.Tie as tie
+use Rattle.packing.proofs.ran.Statement.{statement}
+use Rattle.packing.proofs.ran.Tie as tie
 
 returns : tie.Need-returns
 returns c = c .pack .ensures ∙ ap (λ a. packedSum (ranAnswer a)) (sym (c .before .before .answer .given .1))

@@ -1,10 +1,10 @@
--- `jafrelin::pack::number` meets its contract: each case is packed as its meaning is. Assumes nothing.
+-- `packing::number` meets its contract: each case is packed as its meaning is. Assumes nothing.
 use mathlib.Core.Path.{sym, ap, _∙_}
 use Rattle.estimate.specs.Number.{number}
-use Rattle.jafrelin.specs.Packing.{packedNumber}
+use Rattle.packing.specs.Packing.{packedNumber}
 use borrow.Author.Needs.{needs}
-use Rattle.jafrelin.proofs.pack.number.Statement.{statement}
-use Rattle.jafrelin.proofs.pack.number.Tie as tie
+use Rattle.packing.proofs.number.Statement.{statement}
+use Rattle.packing.proofs.number.Tie as tie
 
 returns-3 : tie.Need-returns-3
 returns-3 c = c .pack3 .ensures ∙ ap (λ a. packedNumber (number a)) (sym (c .before .before .e .given .1))

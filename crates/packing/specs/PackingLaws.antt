@@ -19,7 +19,7 @@ use Rattle.carry.specs.CarryFile.{expanded, contracted, answerIn}
 use Rattle.cases.specs.Numbers.{OfLists, numbers-of-checks, numbers-of-lists, numbers-of-costs, numbers-of-estimates, numbers-of-compiling, numbers-of-carrying}
 use Rattle.cases.specs.PlaceLaws.{Within, value, place}
 use Rattle.cases.specs.Ranges.{Written, check-task-range, check-probe-range, cost-range, relaxed-range, run-task-range, run-probe-range, estimate-task-range, estimate-probe-range, compile-range, expand-range, contract-range}
-use Rattle.jafrelin.specs.Packing.{packed, packedRefusal, packedCheck, packedSum, packedLength, packedList, packedEstimate, refusalOf, lengthOf, sumOf, placeOf, unpacked, unpackedCheck, unpackedSum, unpackedLength, unpackedList, unpackedNumber, unpackedEstimate}
+use Rattle.packing.specs.Packing.{packed, packedRefusal, packedCheck, packedSum, packedLength, packedList, packedEstimate, refusalOf, lengthOf, sumOf, placeOf, unpacked, unpackedCheck, unpackedSum, unpackedLength, unpackedList, unpackedNumber, unpackedEstimate}
 
 -- ---- the theorem
 

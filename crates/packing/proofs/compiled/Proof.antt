@@ -1,10 +1,10 @@
--- `jafrelin::pack::compiled` meets its contract: each case is packed as its meaning is. Assumes nothing.
+-- `packing::compiled` meets its contract: each case is packed as its meaning is. Assumes nothing.
 use mathlib.Core.Path.{sym, ap, _∙_}
 use Rattle.compilation.specs.CompileFile.{compiledAnswer}
-use Rattle.jafrelin.specs.Packing.{packedLength}
+use Rattle.packing.specs.Packing.{packedLength}
 use borrow.Author.Needs.{needs}
-use Rattle.jafrelin.proofs.pack.compiled.Statement.{statement}
-use Rattle.jafrelin.proofs.pack.compiled.Tie as tie
+use Rattle.packing.proofs.compiled.Statement.{statement}
+use Rattle.packing.proofs.compiled.Tie as tie
 
 returns : tie.Need-returns
 returns c = c .pack .ensures ∙ ap (λ a. packedLength (compiledAnswer a)) (sym (c .before .before .answer .given .1))

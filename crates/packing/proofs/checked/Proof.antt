@@ -1,10 +1,10 @@
--- `jafrelin::pack::checked` meets its contract: each case is packed as its meaning is. Assumes nothing.
+-- `packing::checked` meets its contract: each case is packed as its meaning is. Assumes nothing.
 use mathlib.Core.Path.{sym, ap, _∙_}
 use Rattle.facts.specs.Answers.{checkedAnswer}
-use Rattle.jafrelin.specs.Packing.{packedCheck}
+use Rattle.packing.specs.Packing.{packedCheck}
 use borrow.Author.Needs.{needs}
-use Rattle.jafrelin.proofs.pack.checked.Statement.{statement}
-use Rattle.jafrelin.proofs.pack.checked.Tie as tie
+use Rattle.packing.proofs.checked.Statement.{statement}
+use Rattle.packing.proofs.checked.Tie as tie
 
 returns-2 : tie.Need-returns-2
 returns-2 c = c .refusal .ensures ∙ ap (λ a. packedCheck (checkedAnswer a)) (sym (c .before .before .answer .given .1))

@@ -1,10 +1,10 @@
--- `jafrelin::pack::estimated` meets its contract: each case is packed as its meaning is. Assumes nothing.
+-- `packing::estimated` meets its contract: each case is packed as its meaning is. Assumes nothing.
 use mathlib.Core.Path.{sym, ap, _∙_}
 use Rattle.estimate.specs.Answers.{estimatedAnswer}
-use Rattle.jafrelin.specs.Packing.{packedEstimate}
+use Rattle.packing.specs.Packing.{packedEstimate}
 use borrow.Author.Needs.{needs}
-use Rattle.jafrelin.proofs.pack.estimated.Statement.{statement}
-use Rattle.jafrelin.proofs.pack.estimated.Tie as tie
+use Rattle.packing.proofs.estimated.Statement.{statement}
+use Rattle.packing.proofs.estimated.Tie as tie
 
 returns : tie.Need-returns
 returns c = c .number .ensures ∙ ap (λ a. packedEstimate (estimatedAnswer a)) (sym (c .before .before .answer .given .1))

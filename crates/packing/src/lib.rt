@@ -1,4 +1,4 @@
-// Answers packed into 64 bits.
+// Answers packed into the 64 bits that a C function returns.
 use carry::Carried;
 use compilation::Compiled;
 use estimate::Est;
@@ -7,6 +7,7 @@ use facts::Checked;
 use facts::Ran;
 use facts::Refusal;
 use taskfile::Costed;
+use words::Described;
 ghost use mathlib.Core.Path.{_≡_};
 ghost use Rattle.facts.specs.Refusal.{number, place};
 ghost use Rattle.facts.specs.Answers.{checkedAnswer, ranAnswer};
@@ -15,17 +16,18 @@ ghost use Rattle.estimate.specs.Answers.{estimatedAnswer};
 ghost use Rattle.taskfile.specs.Answers.{costedAnswer};
 ghost use Rattle.compilation.specs.CompileFile.{compiledAnswer};
 ghost use Rattle.carry.specs.Answers.{carriedAnswer};
-ghost use Rattle.jafrelin.specs.Packing.{packed, packedRefusal, packedCheck, packedSum, packedLength, packedList, packedNumber, packedEstimate};
+ghost use Rattle.words.specs.Answers.{describedAnswer};
+ghost use Rattle.packing.specs.Packing.{packed, packedRefusal, packedCheck, packedSum, packedLength, packedList, packedNumber, packedEstimate};
 
 // Three numbers in their bits.
-pub fn pack(number: u8, upper: u64, lower: u64) -> u64
+fn pack(number: u8, upper: u64, lower: u64) -> u64
     ensures { λ r. ⌜ r ≡ packed number upper lower ⌝ }
 {
     number as u64 * 72057594037927936 + upper % 16777216 * 4294967296 + lower % 4294967296
 }
 
 // A refusal.
-pub fn refusal(why: Refusal) -> u64
+fn refusal(why: Refusal) -> u64
     ensures { λ r. ⌜ r ≡ packedRefusal (number why) (place why) ⌝ }
 {
     pack(
@@ -75,6 +77,16 @@ pub fn compiled(answer: Compiled) -> u64
     }
 }
 
+// The length of a text that was written.
+pub fn described(answer: Described) -> u64
+    ensures { λ r. ⌜ r ≡ packedLength (describedAnswer answer) ⌝ }
+{
+    match answer {
+        Described::Length(length) => pack(0, length as u64, 0),
+        Described::Refused(why) => refusal(why),
+    }
+}
+
 // The length of a list that was written, and its sum.
 pub fn carried(answer: Carried) -> u64
     ensures { λ r. ⌜ r ≡ packedList (carriedAnswer answer) ⌝ }
@@ -86,7 +98,7 @@ pub fn carried(answer: Carried) -> u64
 }
 
 // A number of the estimate.
-pub fn number(e: Est) -> u64
+fn number(e: Est) -> u64
     ensures { λ r. ⌜ r ≡ packedNumber (estNumber e) ⌝ }
 {
     match e {

@@ -1,10 +1,10 @@
--- `jafrelin::pack::costed` meets its contract: each case is packed as its meaning is. Assumes nothing.
+-- `packing::costed` meets its contract: each case is packed as its meaning is. Assumes nothing.
 use mathlib.Core.Path.{sym, ap, _∙_}
 use Rattle.taskfile.specs.Answers.{costedAnswer}
-use Rattle.jafrelin.specs.Packing.{packedSum}
+use Rattle.packing.specs.Packing.{packedSum}
 use borrow.Author.Needs.{needs}
-use Rattle.jafrelin.proofs.pack.costed.Statement.{statement}
-use Rattle.jafrelin.proofs.pack.costed.Tie as tie
+use Rattle.packing.proofs.costed.Statement.{statement}
+use Rattle.packing.proofs.costed.Tie as tie
 
 returns : tie.Need-returns
 returns c = c .pack .ensures ∙ ap (λ a. packedSum (costedAnswer a)) (sym (c .before .before .answer .given .1))
