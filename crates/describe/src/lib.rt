@@ -56,7 +56,7 @@ fn put_task(out: &mut [u8], file: &[u8], variables: usize, actions: usize, row: 
     let last = 1 + variables;
     let goal = last + variables;
     let sizes = &file[1..last];
-    let names = task::put_variables(out, 0, sizes, &file[last..goal]);
+    let names = words::parts::put_variables(out, 0, sizes, &file[last..goal]);
     let label = append(out, names, b"goal:");
     let facts = words::parts::put_partial(out, label, file, goal, sizes);
     let line = append(out, facts, b"\n");

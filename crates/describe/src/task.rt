@@ -7,37 +7,13 @@ use walk::edge_for;
 use walk::effect_at;
 use walk::own_nodes;
 use words::parts::put_numbered;
-use words::parts::put_partial;
+use words::parts::put_states;
 ghost use Prim.Native.Nat.{_+_};
-ghost use lib.ListN.{length, getD};
-ghost use Rattle.facts.specs.Partial.{partialAt, pastPartial};
+ghost use lib.ListN.{length};
 ghost use Rattle.taskfile.specs.PartsInPlace.{nodeIn, nodesIn, actionIn};
 ghost use Rattle.text.specs.Append.{Adds};
-ghost use Rattle.words.specs.Show.{variableText, targetText, edgeText, nodeText, statesText, costText, actionText};
+ghost use Rattle.words.specs.Show.{targetText, edgeText, nodeText, costText, actionText};
 ghost use Rattle.words.specs.Rows.{rowFrom, edgeFor, nodeFor, actionFor};
-
-// A variable: how many values it has, and its initial one.
-fn put_variable(out: &mut [u8], at: usize, v: usize, size: u8, value: u8) -> usize
-    ensures { λ r. ⌜ Adds (variableText v size value) (now (out .entry)) (now (out .exit)) at r ⌝ }
-{
-    let name = put_numbered(out, at, b"variable ", v as u64);
-    let values = put_numbered(out, name, b": ", size as u64);
-    let start = put_numbered(out, values, b" values, starts at ", value as u64);
-    append(out, start, b"\n")
-}
-
-// All variables, with these sizes and initial values.
-pub fn put_variables(out: &mut [u8], at: usize, sizes: &[u8], init: &[u8]) -> usize
-    ensures { λ r. ⌜ Adds (rowFrom (λ v. variableText v (getD (now (sizes .entry)) v 0) (getD (now (init .entry)) v 0)) 0 (length (now (sizes .entry)))) (now (out .entry)) (now (out .exit)) at r ⌝ }
-{
-    let mut end = at;
-    let mut v: usize = 0;
-    while v < sizes.len() {
-        end = put_variable(out, end, v, byte_at(sizes, v), byte_at(init, v));
-        v += 1;
-    }
-    end
-}
 
 // Where an edge leads to, in a diagram of m nodes.
 fn put_target(out: &mut [u8], at: usize, m: usize, target: usize) -> usize
@@ -113,18 +89,7 @@ fn put_nodes(
     end
 }
 
-// Action a, at an offset: its number, precondition and effect.
-fn put_states(out: &mut [u8], at: usize, file: &[u8], sizes: &[u8], place: usize, a: usize) -> usize
-    ensures { λ r. ⌜ Adds (statesText (length (now (sizes .entry))) a (partialAt (now (file .entry)) place) (partialAt (now (file .entry)) (pastPartial (now (file .entry)) place))) (now (out .entry)) (now (out .exit)) at r ⌝ }
-{
-    let name = put_numbered(out, at, b"action ", a as u64);
-    let before = append(out, name, b"\n  precondition:");
-    let precondition = put_partial(out, before, file, place, sizes);
-    let after = append(out, precondition, b"\n  effect:");
-    put_partial(out, after, file, effect_at(file, place), sizes)
-}
-
-// Its cost: the incoming weight, and the m nodes that begin at these offsets.
+// The cost of an action: the incoming weight, and the m nodes that begin at these offsets.
 fn put_cost(
     out: &mut [u8],
     at: usize,
@@ -143,7 +108,7 @@ fn put_cost(
     put_nodes(out, line, file, sizes, nodes, m)
 }
 
-// Both, of the action whose own nodes begin at the offsets `nodes`.
+// Action a, at an offset: its number, precondition, effect and cost; its own nodes begin at the offsets `nodes`.
 fn put_action(
     out: &mut [u8],
     at: usize,
@@ -156,7 +121,8 @@ fn put_action(
     ensures { λ r. ⌜ Adds (actionText (length (now (sizes .entry))) a (actionIn (now (file .entry)) (now (sizes .entry)) place (now (nodes .entry)))) (now (out .entry)) (now (out .exit)) at r ⌝ }
 {
     let diagram = diagram_at(file, place);
-    let states = put_states(out, at, file, sizes, place, a);
+    let effect = effect_at(file, place);
+    let states = put_states(out, at, b"action ", file, sizes, place, effect, a);
     put_cost(
         out,
         states,

@@ -78,12 +78,13 @@ pub fn takes(command: Command, first: u8) -> bool {
     }
 }
 
-// Whether a command is about a probe file: `follow` always, `check` and `estimate` by the file's name.
+// Whether a command is about a probe file: `follow` always, `check`, `estimate` and `show` by the file's name.
 pub fn is_about_probe(command: Command, named: bool) -> bool {
     match command {
         Command::Follow => true,
         Command::Check => named,
         Command::Estimate => named,
+        Command::Show => named,
         _ => false,
     }
 }

@@ -1,4 +1,4 @@
-// The commands that describe a task or a probe list in words.
+// The commands that describe a task, a probe file or a probe list in words.
 use crate::input::is_given;
 use crate::input::read_number;
 use crate::output::failed;
@@ -7,8 +7,10 @@ use crate::output::reply;
 use report::Subject;
 use words::Described;
 
-// The most bytes of a task in words and of its diagrams, and of the steps of a list: more than any has.
+// The most bytes of a task in words and of its diagrams, of a probe file in words, and of the steps of a list: more than any has.
 const TASK_TEXT: usize = 65536;
+
+const PROBE_TEXT: usize = 524288;
 
 const STEPS_TEXT: usize = 524288;
 
@@ -26,6 +28,13 @@ fn described(answer: Described, text: &[u8], subject: Subject, explain: bool) {
 pub fn show(file: &[u8], explain: bool) {
     let mut text = [0; TASK_TEXT];
     let answer = describe::show(file, &mut text);
+    described(answer, &text, Subject::File, explain);
+}
+
+// `show PROBE`: the probe file in words.
+pub fn show_probe(file: &[u8], explain: bool) {
+    let mut text = [0; PROBE_TEXT];
+    let answer = describe_probe::show(file, &mut text);
     described(answer, &text, Subject::File, explain);
 }
 

@@ -61,6 +61,7 @@ fn on_probe(command: Command, file: &[u8], first: u8, explain: bool) {
     match command {
         Command::Check => commands::accepted(),
         Command::Estimate => on_state(Question::ProbeEstimate, file, next, explain),
+        Command::Show => describing::show_probe(file, explain),
         _ => on_list(command, file, next, explain),
     }
 }

@@ -34,6 +34,10 @@ look-none [] k l = refl
 look-none (x ∷ xs) zero l = absurd (omega arith)
 look-none (x ∷ xs) (suc k) l = look-none xs k (omega arith)
 
+-- Variables with these sizes and initial values.
+pub variables-row : (sizes init : List ℕ) → rowFrom (λ v. variableText v (getD sizes v 0) (getD init v 0)) 0 (length sizes) ≡ flat (λ v size. variableText v size (getD init v 0)) 0 sizes
+variables-row sizes init = sym (list-row (λ v size. variableText v size (getD init v 0)) sizes sizes 0 (λ k j l e. let same : j ≡ k = omega arith in rw same))
+
 -- ---- answers
 
 -- The same answer for a result in other words.
@@ -93,8 +97,7 @@ module _ (f : List ℕ) where
         ≡ taskText t
     unfolding taskText
     task-text {sizes} {init} s h =
-        let names : rowFrom (λ v. variableText v (getD sizes v 0) (getD init v 0)) 0 (length sizes) ≡ flat (λ v size. variableText v size (getD (t .init) v 0)) 0 (t .sizes) =
-        rw (s, h) (sym (list-row (λ v size. variableText v size (getD (t .init) v 0)) (t .sizes) (t .sizes) 0 (λ k j l e. let same : j ≡ k = omega arith in rw same))) in
+        let names : rowFrom (λ v. variableText v (getD sizes v 0) (getD init v 0)) 0 (length sizes) ≡ flat (λ v size. variableText v size (getD (t .init) v 0)) 0 (t .sizes) = rw (s, h) (variables-row (t .sizes) (t .init)) in
         rw (names, goal-in, actions-text (actionText (length sizes)) s, s)
 
     showing-text : showing f n count row ≡ taskText t

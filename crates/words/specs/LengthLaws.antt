@@ -10,7 +10,7 @@ use lib.Dec.{leb}
 use lib.ListN.{length, getD, getElem?, take, drop, length-append, length-drop}
 use Rattle.facts.specs.Read.{accepted, refused, _>>=_}
 use Rattle.facts.specs.ReadLaws.{not-refused, made, through}
-use Rattle.facts.specs.Lists.{total, At, here, there}
+use Rattle.facts.specs.Lists.{total, At, here, there, All}
 use Rattle.facts.specs.ListLaws.{found, at-length, all-at, total-at}
 use Rattle.facts.specs.Bytes.{Bytes}
 use Rattle.facts.specs.Partial.{Partial, above}
@@ -57,33 +57,34 @@ flat-most text a b parts k (x ∷ xs) h =
     )
 
 -- A row of texts of at most `a` bytes each.
-flat-each : {A : Type 0} (text : ℕ → A → List ℕ) (a k : ℕ) (xs : List A) → ((j q : ℕ) (x : A) → At xs j x → q ≡ k + j → length (text q x) ≤ a) → length (flat text k xs) ≤ a * length xs
+pub flat-each : {A : Type 0} (text : ℕ → A → List ℕ) (a k : ℕ) (xs : List A) → ((j q : ℕ) (x : A) → At xs j x → q ≡ k + j → length (text q x) ≤ a) → length (flat text k xs) ≤ a * length xs
 flat-each text a k xs h = omega (arith, flat-most text a 0 (λ x. 0) k xs (λ j q x o e. omega (arith, h j q x o e)))
 
 -- ---- partial states
 
-bit-most : (v b d : ℕ) (values : List ℕ) → v < 100 → d ≤ 8 → Fits b values d → length (bitText v b values) ≤ 6
+bit-most : (v b d : ℕ) (values : List ℕ) → v < 100 → d ≤ 100 → Fits b values d → length (bitText v b values) ≤ 6
 bit-most v zero d values l m h = omega arith
 bit-most v (suc b) d [] l m h = absurd h
 bit-most v (suc b) d (x ∷ values) l m h = simp length-append (omega (arith, two v l, two x (omega arith)))
 
-facts-most : (sizes : List ℕ) (v : ℕ) (p : Partial) → v + length sizes ≤ 100 → Small sizes → Values p sizes → length (factsText (length sizes) v p) ≤ 6 * length sizes
-facts-most [] v p l small h = omega arith
-facts-most (d ∷ sizes) v p l small h =
+-- Where a variable has at most `most` values, a hundred at most, a fact has at most six bytes.
+facts-most : {most : ℕ} (sizes : List ℕ) (v : ℕ) (p : Partial) → most ≤ 100 → v + length sizes ≤ 100 → All (λ d. (2 ≤ d) × (d ≤ most)) sizes → Values p sizes → length (factsText (length sizes) v p) ≤ 6 * length sizes
+facts-most [] v p few l small h = omega arith
+facts-most (d ∷ sizes) v p few l small h =
     omega (
       arith,
       length-append (bitText v (p .map % 2) (p .values)) (factsText (length sizes) (suc v) (above p)),
-      bit-most v (p .map % 2) d (p .values) (omega arith) (small .0 .1) (h .0),
-      facts-most sizes (suc v) (above p) (omega arith) (small .1) (h .1),
+      bit-most v (p .map % 2) d (p .values) (omega arith) (omega (arith, small .0 .1)) (h .0),
+      facts-most sizes (suc v) (above p) few (omega arith) (small .1) (h .1),
     )
 
 some-most : (b : ℕ) (facts : List ℕ) → length (someText b facts) ≤ 5 + length facts
 some-most zero facts = omega arith
 some-most (suc b) facts = omega arith
 
-partial-most : {sizes : List ℕ} {p : Partial} → length sizes ≤ 24 → Small sizes → WfPartial sizes p → length (partialText (length sizes) p) ≤ 149
+pub partial-most : {most : ℕ} {sizes : List ℕ} {p : Partial} → most ≤ 100 → length sizes ≤ 100 → All (λ d. (2 ≤ d) × (d ≤ most)) sizes → WfPartial sizes p → length (partialText (length sizes) p) ≤ 5 + 6 * length sizes
 unfolding partialText
-partial-most {sizes} {p} l small w = omega (arith, some-most (p .map) (factsText (length sizes) 0 p), facts-most sizes 0 p (omega arith) small (w .values))
+partial-most {sizes = sizes} {p = p} few l small w = omega (arith, some-most (p .map) (factsText (length sizes) 0 p), facts-most sizes 0 p few (omega arith) small (w .values))
 
 -- ---- in words
 
@@ -95,7 +96,7 @@ target-most m target l = go (leb target m)
     go true = omega (arith, two target l)
     go false = omega arith
 
-variable-most : (v size value : ℕ) → v < 100 → size < 100 → value < 100 → length (variableText v size value) ≤ 40
+pub variable-most : (v size value : ℕ) → v < 100 → size < 100 → value < 100 → length (variableText v size value) ≤ 40
 variable-most v size value l m k = simp length-append (omega (arith, two v l, two size m, two value k))
 
 edge-most : (m d : ℕ) (e : Edge) → d < 100 → e .target < 100 → e .weight ≤ 65535 → length (edgeText m d e) ≤ 40
@@ -139,6 +140,10 @@ module _ {t : Task} (ok : AcceptedTask t) where
   -- what its numbers and counts are below
   few-variables : length (t .sizes) ≤ 24
   few-variables = ok .limits .variables
+
+  -- A partial state has at most 149 bytes.
+  state-most : {p : Partial} → WfPartial (t .sizes) p → length (partialText (length (t .sizes)) p) ≤ 149
+  state-most w = omega (arith, few-variables, partial-most {most = 8} (omega arith) (omega (arith, few-variables)) (ok .limits .sizes) w)
 
   module _ {a : ℕ} {x : Action} (h : At (t .actions) a x) where
     pub number-small : a < 100
@@ -186,8 +191,8 @@ module _ {t : Task} (ok : AcceptedTask t) where
         (omega (
           arith,
           two a number-small,
-          partial-most few-variables (ok .limits .sizes) (ok .wf .actions h .pre),
-          partial-most few-variables (ok .limits .sizes) (ok .wf .actions h .eff),
+          state-most (ok .wf .actions h .pre),
+          state-most (ok .wf .actions h .eff),
           five (x .incoming) (ok .weights h .incoming),
           target-most (length (x .nodes)) 1 (omega arith),
           nodes,
@@ -217,7 +222,7 @@ module _ {t : Task} (ok : AcceptedTask t) where
       let value : getD (t .init) q 0 < 100 = omega (arith, inside-at (t .sizes) (t .init) q (ok .wf .init) below, small-at (t .sizes) q (ok .limits .sizes) below) in
       variable-most q size (getD (t .init) q 0) (omega (arith, few-variables)) (omega (arith, values)) value) in
       let actions = flat-most (actionText (length (t .sizes))) 400 350 (λ x. length (x .nodes)) 0 (t .actions) (λ j q x o e. let same : j ≡ q = omega arith in subst (λ (k : ℕ). length (actionText (length (t .sizes)) k x) ≤ 400 + 350 * length (x .nodes)) same (action-most o)) in
-      simp length-append (omega (arith, names, actions, partial-most few-variables (ok .limits .sizes) (ok .wf .goal), few-variables, ok .limits .actions, ok .limits .nodes))
+      simp length-append (omega (arith, names, actions, state-most (ok .wf .goal), few-variables, ok .limits .actions, ok .limits .nodes))
 
   -- All cost diagrams.
   drawing-most : length (dotText 0 (t .actions)) ≤ mostText

@@ -33,17 +33,17 @@ nodeText m i nd = bytes "  node " ++ (decimal i ++ (bytes " tests variable " ++ 
 
 -- ---- actions
 
--- action a of a task with n variables: its number, precondition and effect
-abbrev pub statesText : ℕ → ℕ → Partial → Partial → List ℕ
-statesText n a pre eff = bytes "action " ++ (decimal a ++ (bytes "\n  precondition:" ++ (partialText n pre ++ (bytes "\n  effect:" ++ partialText n eff))))
+-- an action or a step of n variables: its label and number, precondition and effect
+abbrev pub statesText : List ℕ → ℕ → ℕ → Partial → Partial → List ℕ
+statesText label n a pre eff = label ++ (decimal a ++ (bytes "\n  precondition:" ++ (partialText n pre ++ (bytes "\n  effect:" ++ partialText n eff))))
 
--- its cost: the incoming weight and the nodes
+-- the cost of an action: the incoming weight and the nodes
 abbrev pub costText : ℕ → List Node → List ℕ
 costText incoming nodes = bytes "\n  cost: " ++ (decimal incoming ++ (bytes ", then " ++ (targetText (length nodes) 1 ++ (bytes "\n" ++ flat (nodeText (length nodes)) 1 nodes))))
 
--- all of the action
+-- action a of a task with n variables
 abbrev pub actionText : ℕ → ℕ → Action → List ℕ
-actionText n a x = statesText n a (x .pre) (x .eff) ++ costText (x .incoming) (x .nodes)
+actionText n a x = statesText (bytes "action ") n a (x .pre) (x .eff) ++ costText (x .incoming) (x .nodes)
 
 -- variables, goal and actions
 unfoldable pub taskText : Task → List ℕ

@@ -1,8 +1,8 @@
--- `describe::task::put_variable` meets its contract: one part straight after the other. Assumes nothing.
+-- `words::parts::put_variable` meets its contract: one part straight after the other. Assumes nothing.
 use Rattle.words.specs.RowLaws.{two-then}
 use borrow.Author.Needs.{needs}
-use Rattle.describe.proofs.task.put_variable.Statement.{statement}
-use Rattle.describe.proofs.task.put_variable.Tie as tie
+use Rattle.words.proofs.parts.put_variable.Statement.{statement}
+use Rattle.words.proofs.parts.put_variable.Tie as tie
 
 pub put-variable-spec : {M : Type 1} → statement M
 put-variable-spec =

@@ -1,17 +1,17 @@
--- `describe::task::put_variables` meets its contract: one variable after the other. Assumes nothing.
+-- `words::parts::put_variables` meets its contract: one variable after the other. Assumes nothing.
 use Prim.Native.Nat.{ℕ, _-_}
 use mathlib.Core.Path.{ap₂}
 use mathlib.Core.List.{List}
 use lib.ListN.{length, getD}
 use denote.Ref.{now}
 use Rattle.text.specs.AppendLaws.{adds-as}
 use Rattle.words.specs.Show.{variableText}
 use Rattle.words.specs.Rows.{rowFrom}
 use Rattle.words.specs.RowLaws.{Row, row-start, row-more, row-end}
 use borrow.Author.Needs.{needs}
 use native.Mathlib.Omega.{arith}
-use Rattle.describe.proofs.task.put_variables.Statement.{statement}
-use Rattle.describe.proofs.task.put_variables.Tie as tie
+use Rattle.words.proofs.parts.put_variables.Statement.{statement}
+use Rattle.words.proofs.parts.put_variables.Tie as tie
 
 -- the text of a variable
 abbrev text : List ℕ → List ℕ → ℕ → List ℕ
