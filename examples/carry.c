@@ -1,4 +1,4 @@
-/* Compiles a task file, carries a plan across to the probe file and back, and compares the sums.
+/* Compiles a task file, carries a plan across to the probe file and back, compares the sums, and names the steps.
  *
  *   rt staticlib jafrelin
  *   cc -Iinclude examples/carry.c target/staticlib/libjafrelin.a -o carry
@@ -8,17 +8,19 @@
 #include <stdio.h>
 #include <stdlib.h>
 
-/* One byte more than a task file has, so that a longer file is refused. */
+/* One byte more than a task file has, so that a longer file is refused; likewise of the plan. */
 static uint8_t task[JAFRELIN_TASK_MAX_BYTES + 1];
+static uint16_t plan[JAFRELIN_TASK_MAX_LIST + 1];
 static uint8_t probe[JAFRELIN_PROBE_MAX_WRITTEN];
-static uint16_t plan[JAFRELIN_TASK_MAX_LIST + 1], back[JAFRELIN_TASK_MAX_LIST];
-static uint16_t steps[JAFRELIN_PROBE_MAX_LIST];
+static uint16_t steps[JAFRELIN_PROBE_MAX_LIST], back[JAFRELIN_TASK_MAX_LIST];
+static uint8_t text[JAFRELIN_STEPS_MAX_BYTES];
 
 /* The result, if it is no refusal. */
-static uint64_t accepted(uint64_t result)
+static uint64_t accepted(uint64_t result, enum jafrelin_subject subject)
 {
     if (JAFRELIN_REFUSAL(result)) {
-        printf("refused %u at %u\n", JAFRELIN_REFUSAL(result), (unsigned)JAFRELIN_PLACE(result));
+        size_t length = JAFRELIN_LENGTH(jafrelin_explain(result, subject, text, sizeof text));
+        printf("refused %u at %u\n%.*s", JAFRELIN_REFUSAL(result), (unsigned)JAFRELIN_PLACE(result), (int)length, (const char *)text);
         exit(1);
     }
     return result;
@@ -37,14 +39,14 @@ int main(int argc, char **argv)
     for (int i = 2; i < argc && actions <= JAFRELIN_TASK_MAX_LIST; i++)
         plan[actions++] = (uint16_t)strtoul(argv[i], NULL, 10);
 
-    size_t probe_len = JAFRELIN_LENGTH(accepted(jafrelin_compile(task, task_len, probe, sizeof probe)));
-    uint64_t there = accepted(jafrelin_expand(task, task_len, plan, actions, steps, JAFRELIN_PROBE_MAX_LIST));
+    size_t probe_len = JAFRELIN_LENGTH(accepted(jafrelin_compile(task, task_len, probe, sizeof probe), JAFRELIN_OF_FILE));
+    uint64_t there = accepted(jafrelin_expand(task, task_len, plan, actions, steps, JAFRELIN_PROBE_MAX_LIST), JAFRELIN_OF_LIST);
     size_t count = JAFRELIN_LENGTH(there);
-    uint64_t followed = accepted(jafrelin_run_probe(probe, probe_len, steps, count));
-    uint64_t home = accepted(jafrelin_contract(task, task_len, steps, count, back, JAFRELIN_TASK_MAX_LIST));
+    uint64_t followed = accepted(jafrelin_run_probe(probe, probe_len, steps, count), JAFRELIN_OF_LIST);
+    uint64_t home = accepted(jafrelin_contract(task, task_len, steps, count, back, JAFRELIN_TASK_MAX_LIST), JAFRELIN_OF_CONTRACTED);
+    uint64_t names = accepted(jafrelin_name_steps(task, task_len, steps, count, text, sizeof text), JAFRELIN_OF_LIST);
 
     printf("%zu bytes, %zu steps, sum %u\n", probe_len, count, (unsigned)JAFRELIN_SUM(there));
-    for (size_t i = 0; i < count; i++)
-        printf("%u%c", (unsigned)steps[i], i + 1 < count ? ' ' : '\n');
+    fwrite(text, 1, JAFRELIN_LENGTH(names), stdout);
     return JAFRELIN_SUM(there) != JAFRELIN_SUM(followed) || JAFRELIN_SUM(there) != JAFRELIN_SUM(home) || JAFRELIN_LENGTH(home) != actions;
 }

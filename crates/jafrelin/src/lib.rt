@@ -1,6 +1,7 @@
 // The operations as C functions, for the static library; include/jafrelin.h declares them. A slice is a pointer and a length.
 ghost use mathlib.Core.Path.{_≡_};
 ghost use lib.ListN.{length};
+ghost use Rattle.facts.specs.Read.{accepted};
 ghost use Rattle.facts.specs.Write.{lengthIn, writtenIn};
 ghost use Rattle.taskfile.specs.TaskFile.{checkTask, costTask, runTask};
 ghost use Rattle.relaxation.specs.RelaxedTask.{relaxedTask};
@@ -11,7 +12,8 @@ ghost use Rattle.compilation.specs.CompileFile.{compileFile, compiledBuffer};
 ghost use Rattle.carry.specs.CarryFile.{expanded, contracted, answerIn, bufferIn};
 ghost use Rattle.words.specs.DescribeFile.{shown, drawn, drawnAction};
 ghost use Rattle.steps.specs.NamedFile.{named};
-ghost use Rattle.packing.specs.Packing.{packedCheck, packedSum, packedLength, packedList, packedEstimate};
+ghost use Rattle.sentence.specs.Sentence.{subjectOf, sentence};
+ghost use Rattle.packing.specs.Packing.{packedCheck, packedSum, packedLength, packedList, packedEstimate, refusalOf, placeOf};
 
 // Whether a task file is accepted.
 #[no_mangle]
@@ -138,4 +140,14 @@ pub extern "C" fn jafrelin_name_steps(file: &[u8], list: &[u16], out: &mut [u8])
     ensures { λ r. ⌜ now (out .exit) ≡ writtenIn (now (out .entry)) (named (now (file .entry)) (now (list .entry))) ⌝ }
 {
     packing::described(steps::name_steps(file, list, out))
+}
+
+// The sentence for the refusal in a result, about what `about` names, written into a buffer.
+#[no_mangle]
+pub extern "C" fn jafrelin_explain(result: u64, about: u64, out: &mut [u8]) -> u64
+    ensures { λ r. ⌜ r ≡ packedLength (lengthIn (length (now (out .entry))) (accepted (sentence (subjectOf about) (refusalOf result) (placeOf result)))) ⌝ }
+    ensures { λ r. ⌜ now (out .exit) ≡ writtenIn (now (out .entry)) (accepted (sentence (subjectOf about) (refusalOf result) (placeOf result))) ⌝ }
+{
+    let place = (result % 4294967296) as usize;
+    packing::described(sentence::explain(result / 72057594037927936, place, about, out))
 }
