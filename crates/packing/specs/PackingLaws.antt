@@ -80,6 +80,13 @@ module _ {X : Type 0} (part : ℕ → X) where
   back pack of-value of-refusal l (value {x = x} g) named = of-value x g
   back pack of-value of-refusal l (place {n = n} {p = p} q) named = ap (unpacked part) (of-refusal n p) ∙ refusal-back n p (named n p refl) (omega arith)
 
+-- A length that fits comes back, and so does a refusal beside lengths.
+pub length-comes : (n : ℕ) → n < 16777216 → unpackedLength (packedLength (accepted n)) ≡ accepted n
+length-comes n l = value-back lengthOf (refusal-of 0 n 0) (length-of 0 n 0 l)
+
+pub refusal-comes : (n p : ℕ) → 1 ≤ n → p < 4294967296 → unpackedLength (packedLength (refused n p)) ≡ refused n p
+refusal-comes n p l q = refusal-back lengthOf n p l q
+
 module _ {most : ℕ} (small : most < 4294967296) where
   check-back : {good : Unit {0} → Type 0} {r : Read (Unit {0})} → Within good most r → Numbered r → unpackedCheck (packedCheck r) ≡ r
   check-back w named = back (λ w. tt) packedCheck (λ u g. refl) (λ n p. refl) small w named
@@ -88,7 +95,7 @@ module _ {most : ℕ} (small : most < 4294967296) where
   sum-back d w named = back sumOf packedSum (λ sum g. value-back sumOf (refusal-of 0 0 sum) (sum-of 0 0 sum (omega arith))) (λ n p. refl) small w named
 
   length-back : {long : ℕ} {r : Read ℕ} → long < 16777216 → Within (λ n. n ≤ long) most r → Numbered r → unpackedLength (packedLength r) ≡ r
-  length-back d w named = back lengthOf packedLength (λ n g. value-back lengthOf (refusal-of 0 n 0) (length-of 0 n 0 (omega arith))) (λ n p. refl) small w named
+  length-back d w named = back lengthOf packedLength (λ n g. length-comes n (omega arith)) (λ n p. refl) small w named
 
   list-back : {long dear : ℕ} {r : Read (ℕ × ℕ)} → long < 16777216 → dear < 4294967296 → Within (Written long dear) most r → Numbered r → unpackedList (packedList r) ≡ r
   list-back l d w named =

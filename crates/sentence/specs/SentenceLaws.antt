@@ -1,11 +1,12 @@
 -- Laws of sentences by number.
-use Prim.Native.Nat.{ℕ, _≤_, _<_}
+use Prim.Native.Nat.{ℕ, zero, suc, _≤_, _<_}
 use mathlib.Core.Path.{_≡_, refl, sym, ap, ap₂, _∙_}
 use mathlib.Core.Bool.{Bool, true, false}
-use mathlib.Core.List.{List, []}
+use mathlib.Core.List.{List, [], _∷_}
 use native.Mathlib.Omega.{arith}
 use lib.Dec.{eqb}
-use lib.ListN.{length, length-append, List·getD-eq-default}
+use lib.ListN.{length, getD, length-append, List·getD-eq-default}
+use Rattle.facts.specs.Lists.{All}
 use Rattle.facts.specs.Read.{accepted}
 use Rattle.facts.specs.Write.{lengthIn, writtenIn}
 use Rattle.facts.specs.Refusal.{number, place}
@@ -109,3 +110,15 @@ explanation-most s (Blocked p) l = simp length-append (omega (arith, digits p l)
 explanation-most s (Unmet p) l = simp length-append (omega (arith, digits p l))
 explanation-most s (Missing p) l = missing-most s p l
 explanation-most s (Width p) l = omega arith
+
+-- Each of a row is at most so long, so the one at any index is.
+each-most : (xs : List (List ℕ)) (n : ℕ) → All (λ x. length x ≤ 256) xs → length (getD xs n []) ≤ 256
+each-most [] n h = omega arith
+each-most (x ∷ xs) zero h = h .0
+each-most (x ∷ xs) (suc n) h = each-most xs n (h .1)
+
+pub sentence-most : (s : Subject) (n p : ℕ) → p ≤ largest → length (sentence s n p) ≤ 256
+unfolding sentence
+sentence-most s n p l =
+    let of : (why : Refusal) → place why ≤ largest → length (explanation s why) ≤ 256 = explanation-most s in
+    each-most (sentences s p) n (omega arith, (of (Ends p) l, (of (Trailing p) l, (of (Range p) l, (of (Outside p) l, (of (Stray p) l, (of (Diagram p) l, (of (Short p) l, (of (Long p) l, (of (Blocked p) l, (of (Unmet p) l, (of (Missing p) l, (of (Width p) l, tt)))))))))))))

@@ -1,0 +1,2 @@
+-- Results of the C functions for texts, unpacked, are the answers of their operations.
+pub mod TextResults
