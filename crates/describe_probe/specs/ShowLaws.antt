@@ -20,7 +20,6 @@ use Rattle.probefile.specs.ProbeLaws.{probe-wf, probe-lines}
 use Rattle.probefile.specs.InPlace.{probeAt, stepAt, Located}
 use Rattle.probefile.specs.IndexLaws.{not-read, accepted-probe, starts, steps-in-place}
 use Rattle.compilation.specs.Compile.{flat}
-use Rattle.text.specs.Text.{decimal}
 use Rattle.text.specs.Append.{bytes}
 use Rattle.text.specs.PrintLaws.{digits-most}
 use Rattle.words.specs.Words.{partialText}

@@ -18,7 +18,7 @@ use Rattle.facts.specs.PartialLaws.{inside-at}
 use Rattle.facts.specs.WellFormed.{Fits, Values, WfPartial}
 use Rattle.taskfile.specs.Task.{Edge, Node, Action, Task, WfNode}
 use Rattle.taskfile.specs.TaskFile.{readTask, actionOf}
-use Rattle.taskfile.specs.DiagramReadLaws.{Small, small-at}
+use Rattle.taskfile.specs.DiagramReadLaws.{small-at}
 use Rattle.compilation.specs.Compile.{flat}
 use Rattle.compilation.specs.CompiledLaws.{AcceptedTask, task-accepted}
 use Rattle.text.specs.Text.{decimal}
