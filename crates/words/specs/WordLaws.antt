@@ -2,11 +2,12 @@
 use Prim.Native.Nat.{ℕ, zero, suc, _+_, _*_, _-_, _/_, _%_, _≤_, _<_}
 use mathlib.Core.Path.{_≡_, refl, sym, ap, ap₂, _∙_}
 use mathlib.Core.Bool.{Bool, true, false}
-use mathlib.Core.List.{List, [], _++_}
+use mathlib.Core.List.{List, [], _∷_, _++_}
 use native.Mathlib.Omega.{arith}
 use native.Mathlib.Numerals.{add-one}
+use lib.Count.{ones}
 use lib.Dec.{ltb}
-use lib.ListN.{length, getD, drop, drop-of-length-le}
+use lib.ListN.{length, getD, take, drop, drop-of-length-le}
 use lib.Seq.{drop-cons}
 use borrow.Author.Tests.{ltb-true, ltb-false}
 use Rattle.facts.specs.Read.{accepted, refused}
@@ -16,7 +17,7 @@ use Rattle.facts.specs.BitsLaws.{odd-bit, odd-half, first-even, first-odd, firs
 use Rattle.facts.specs.InPlaceLaws.{standing-read, empty-read}
 use Rattle.text.specs.Append.{bytes, Adds}
 use Rattle.text.specs.AppendLaws.{Adding, adding-start, adding-more, adding-end}
-use Rattle.words.specs.Words.{factText, bitText, factsText, someText, partialText}
+use Rattle.words.specs.Words.{factText, bitText, bitsText, factsText, someText, partialText}
 
 -- the file f
 module _ (f : List ℕ) where
@@ -32,62 +33,76 @@ module _ (f : List ℕ) where
   bit-fact v zero at h l = absurd (h refl)
   bit-fact v (suc b) at h l = rw (drop-cons f at 0 l)
 
-  -- ---- the variables from v on
+-- ---- texts of variables by their bits
 
+-- a variable whose bit does not stand has no text, and of the values only the first counts
+pub record Bitwise (text : ℕ → ℕ → List ℕ → List ℕ) : Type 0 where
+  pub none : (v : ℕ) (values : List ℕ) → text v 0 values ≡ []
+  pub first : (v d : ℕ) (xs ys : List ℕ) → text v 1 (d ∷ xs) ≡ text v 1 (d ∷ ys)
+
+pub facts-bitwise : Bitwise bitText
+facts-bitwise = record { none = λ v values. refl; first = λ v d xs ys. refl }
+
+-- the file f
+module _ (f : List ℕ) {text : ℕ → ℕ → List ℕ → List ℕ} (bitwise : Bitwise text) where
   module _ (n v k at : ℕ) where
     -- The bit of variable v does not stand; it stands; or the file ends before its value.
-    facts-even : factsText (suc n) v (standingAt f (2 * k) at) ≡ factsText n (suc v) (standingAt f k at)
-    facts-even = ap₂ (λ (x y : List ℕ). x ++ y) (first-even (bitText v) f k at) (ap (factsText n (suc v)) (above-even f k at))
+    bits-even : bitsText text (suc n) v (standingAt f (2 * k) at) ≡ text v 0 (drop at f) ++ bitsText text n (suc v) (standingAt f k at)
+    bits-even =
+        ap₂ (λ (x y : List ℕ). x ++ y) (first-even (text v) f k at ∙ bitwise .none v (take (ones k) (drop at f)) ∙ sym (bitwise .none v (drop at f))) (ap (bitsText text n (suc v)) (above-even f k at))
 
-    facts-odd : at < length f → factsText (suc n) v (standingAt f (2 * k + 1) at) ≡ bitText v 1 (drop at f) ++ factsText n (suc v) (standingAt f k (at + 1))
-    facts-odd l =
-        ap₂ (λ (x y : List ℕ). x ++ y) (first-odd (bitText v) f k at l ∙ bit-fact v 1 at (λ e. omega arith) l) (ap (factsText n (suc v)) (above-odd f k at l))
+    bits-odd : at < length f → bitsText text (suc n) v (standingAt f (2 * k + 1) at) ≡ text v 1 (drop at f) ++ bitsText text n (suc v) (standingAt f k (at + 1))
+    bits-odd l =
+        ap₂ (λ (x y : List ℕ). x ++ y)
+        (first-odd (text v) f k at l ∙ bitwise .first v (getD f at 0) (take (ones k) (drop (at + 1) f)) (drop (suc at) f) ∙ ap (text v 1) (sym (drop-cons f at 0 l)))
+        (ap (bitsText text n (suc v)) (above-odd f k at l))
 
-    facts-cut : length f ≤ at → factsText (suc n) v (standingAt f (2 * k + 1) at) ≡ bitText v 1 (drop at f) ++ factsText n (suc v) (standingAt f k (at + 1))
-    facts-cut l =
+    bits-cut : length f ≤ at → bitsText text (suc n) v (standingAt f (2 * k + 1) at) ≡ text v 1 (drop at f) ++ bitsText text n (suc v) (standingAt f k (at + 1))
+    bits-cut l =
         let bare : above (record { map = 2 * k + 1; values = [] }) ≡ record { map = k; values = [] } = rw (odd-bit k, odd-half k) in
         let none : above (standingAt f (2 * k + 1) at) ≡ standingAt f k (at + 1) = ap above (cut-values f (2 * k + 1) at l) ∙ bare ∙ sym (cut-values f k (at + 1) (omega arith)) in
-        ap₂ (λ (x y : List ℕ). x ++ y) (first-cut (bitText v) f k at l ∙ bit-cut v 1 at l) (ap (factsText n (suc v)) none)
+        ap₂ (λ (x y : List ℕ). x ++ y) (first-cut (text v) f k at l ∙ ap (text v 1) (sym (drop-of-length-le f l))) (ap (bitsText text n (suc v)) none)
 
-  -- The fact of variable v, and those of the variables above it.
-  facts-next : (n v m at k b next : ℕ) → b ≡ m % 2 → k ≡ m / 2 → next ≡ at + b
-      → factsText (suc n) v (standingAt f m at) ≡ bitText v b (drop at f) ++ factsText n (suc v) (standingAt f k next)
-  facts-next n v m at k zero next e h g = let even : m ≡ 2 * k = omega arith in let same : next ≡ at = omega arith in rw (even, same) (facts-even n v k at)
-  facts-next n v m at k (suc b) next e h g =
+  -- The text of variable v, and those of the variables above it.
+  bits-next : (n v m at k b next : ℕ) → b ≡ m % 2 → k ≡ m / 2 → next ≡ at + b
+      → bitsText text (suc n) v (standingAt f m at) ≡ text v b (drop at f) ++ bitsText text n (suc v) (standingAt f k next)
+  bits-next n v m at k zero next e h g = let even : m ≡ 2 * k = omega arith in let same : next ≡ at = omega arith in rw (even, same) (bits-even n v k at)
+  bits-next n v m at k (suc b) next e h g =
       let odd : m ≡ 2 * k + 1 = omega arith in
       let one : b ≡ 0 = omega arith in
       let up : next ≡ at + 1 = omega arith in
       rw (odd, one, up) (go (ltb at (length f)) refl)
     where
-      go : (t : Bool) → ltb at (length f) ≡ t → factsText (suc n) v (standingAt f (2 * k + 1) at) ≡ bitText v 1 (drop at f) ++ factsText n (suc v) (standingAt f k (at + 1))
-      go true t = facts-odd n v k at (ltb-true at (length f) t)
-      go false t = facts-cut n v k at (ltb-false at (length f) t)
+      go : (t : Bool) → ltb at (length f) ≡ t → bitsText text (suc n) v (standingAt f (2 * k + 1) at) ≡ text v 1 (drop at f) ++ bitsText text n (suc v) (standingAt f k (at + 1))
+      go true t = bits-odd n v k at (ltb-true at (length f) t)
+      go false t = bits-cut n v k at (ltb-false at (length f) t)
 
-  -- of n variables those from v on are left, whose map is m and whose values begin at `place`
-  pub record FactsLeft (whole before now : List ℕ) (from at n v m place : ℕ) : Type 0 where
-    pub adding : Adding whole (factsText (n - v) v (standingAt f m place)) before now from at
+-- of n variables those from v on are left, whose map is m and whose values begin at `place`
+pub record BitsLeft (f : List ℕ) (text : ℕ → ℕ → List ℕ → List ℕ) (whole before now : List ℕ) (from at n v m place : ℕ) : Type 0 where
+  pub adding : Adding whole (bitsText text (n - v) v (standingAt f m place)) before now from at
 
-  -- At first all are left.
-  pub facts-start : (n m place : ℕ) (out : List ℕ) (at : ℕ) → FactsLeft (factsText n 0 (standingAt f m place)) out out at at n 0 m place
-  facts-start n m place out at = let e : n - 0 ≡ n = omega arith in record { adding = rw e (adding-start (factsText n 0 (standingAt f m place)) out at) }
+-- At first all are left.
+pub bits-start : (f : List ℕ) (text : ℕ → ℕ → List ℕ → List ℕ) (n m place : ℕ) (out : List ℕ) (at : ℕ) → BitsLeft f text (bitsText text n 0 (standingAt f m place)) out out at at n 0 m place
+bits-start f text n m place out at = let e : n - 0 ≡ n = omega arith in record { adding = rw e (adding-start (bitsText text n 0 (standingAt f m place)) out at) }
 
-  module _ {whole before now : List ℕ} {from at n v m place : ℕ} (g : FactsLeft whole before now from at n v m place) where
-    -- Then the fact of variable v is written.
-    pub facts-more : {last : List ℕ} {end k b next : ℕ} → b ≡ m % 2 → k ≡ m / 2 → next ≡ place + b → v < n → Adds (bitText v b (drop place f)) now last at end
-        → FactsLeft whole before last from end n (v + 1) k next
-    facts-more {k = k} {b = b} {next = next} e h q l w = record {
-      adding = adding-more (bitText v b (drop place f)) (factsText (n - (v + 1)) (v + 1) (standingAt f k next)) (g .adding)
-          (let s : n - v ≡ suc (n - (v + 1)) = omega arith in
-          ap (λ (j : ℕ). factsText j v (standingAt f m place)) s ∙ facts-next (n - (v + 1)) v m place k b next e h q
-          ∙ ap (λ (j : ℕ). bitText v b (drop place f) ++ factsText (n - (v + 1)) j (standingAt f k next)) (sym (add-one v))) w;
-    }
+module _ {f : List ℕ} {text : ℕ → ℕ → List ℕ → List ℕ} {whole before now : List ℕ} {from at n v m place : ℕ} (g : BitsLeft f text whole before now from at n v m place) where
+  -- Then the text of variable v is written.
+  pub bits-more : {last : List ℕ} {end k b next : ℕ} → Bitwise text → b ≡ m % 2 → k ≡ m / 2 → next ≡ place + b → v < n → Adds (text v b (drop place f)) now last at end
+      → BitsLeft f text whole before last from end n (v + 1) k next
+  bits-more {k = k} {b = b} {next = next} bitwise e h q l w = record {
+    adding = adding-more (text v b (drop place f)) (bitsText text (n - (v + 1)) (v + 1) (standingAt f k next)) (g .adding)
+        (let s : n - v ≡ suc (n - (v + 1)) = omega arith in
+        ap (λ (j : ℕ). bitsText text j v (standingAt f m place)) s ∙ bits-next f bitwise (n - (v + 1)) v m place k b next e h q
+        ∙ ap (λ (j : ℕ). text v b (drop place f) ++ bitsText text (n - (v + 1)) j (standingAt f k next)) (sym (add-one v))) w;
+  }
 
-    -- At last none is left.
-    pub facts-end : n ≤ v → Adds whole before now from at
-    facts-end l = adding-end (g .adding) (let e : n - v ≡ 0 = omega arith in rw e)
+  -- At last none is left.
+  pub bits-end : n ≤ v → Adds whole before now from at
+  bits-end l = adding-end (g .adding) (let e : n - v ≡ 0 = omega arith in rw e)
 
-  -- ---- a partial state
+-- ---- partial states of the file f
 
+module _ (f : List ℕ) where
   -- No bit stands.
   some-none : (p : Partial) (n : ℕ) → p .map ≡ 0 → bytes " none" ≡ partialText n p
   unfolding partialText

@@ -15,10 +15,14 @@ bitText v zero values = []
 bitText v (suc b) [] = []
 bitText v (suc b) (d ∷ values) = bytes " " ++ factText v d
 
--- the facts of the variables from v on, of n
+-- the texts of n variables from v on, each by its bit in a partial state and the values from its own on
+abbrev pub bitsText : (ℕ → ℕ → List ℕ → List ℕ) → ℕ → ℕ → Partial → List ℕ
+bitsText text zero v p = []
+bitsText text (suc n) v p = text v (p .map % 2) (p .values) ++ bitsText text n (suc v) (above p)
+
+-- the facts of n variables from v on
 abbrev pub factsText : ℕ → ℕ → Partial → List ℕ
-factsText zero v p = []
-factsText (suc n) v p = bitText v (p .map % 2) (p .values) ++ factsText n (suc v) (above p)
+factsText n v p = bitsText bitText n v p
 
 -- the facts of a map, or that there are none
 abbrev pub someText : ℕ → List ℕ → List ℕ

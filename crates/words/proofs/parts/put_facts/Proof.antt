@@ -4,8 +4,8 @@ use mathlib.Core.Path.{refl}
 use lib.ListN.{length}
 use denote.Ref.{now}
 use Rattle.facts.specs.Partial.{standingAt}
-use Rattle.words.specs.Words.{factsText}
-use Rattle.words.specs.WordLaws.{FactsLeft, facts-start, facts-more, facts-end}
+use Rattle.words.specs.Words.{bitText, factsText}
+use Rattle.words.specs.WordLaws.{facts-bitwise, BitsLeft, bits-start, bits-more, bits-end}
 use borrow.Author.Needs.{needs}
 use native.Mathlib.Omega.{arith}
 use Rattle.words.proofs.parts.put_facts.Statement.{statement}
@@ -13,16 +13,16 @@ use Rattle.words.proofs.parts.put_facts.Tie as tie
 
 abbrev Inv-loop : tie.InvT-loop
 Inv-loop out₀ at file place map sizes end₀ rest₀ value₀ v₀ out end rest value v =
-    (v ≤ length sizes) × (value ≤ place + v) × FactsLeft file (factsText (length sizes) 0 (standingAt file map place)) out₀ out at end (length sizes) v rest value
+    (v ≤ length sizes) × (value ≤ place + v) × BitsLeft file bitText (factsText (length sizes) 0 (standingAt file map place)) out₀ out at end (length sizes) v rest value
 
 abbrev μ-loop : tie.MeasureT-loop
 μ-loop out₀ at file place map sizes end₀ rest₀ value₀ v₀ out end rest value v = length sizes - v
 
 loop-holds : tie.Need-loop-holds Inv-loop μ-loop
-loop-holds c = let a = c .before .before .before .args in (omega arith, omega arith, facts-start (now (a .file)) (length (now (a .sizes))) (a .map) (a .place) (now (a .out)) (a .at))
+loop-holds c = let a = c .before .before .before .args in (omega arith, omega arith, bits-start (now (a .file)) bitText (length (now (a .sizes))) (a .map) (a .place) (now (a .out)) (a .at))
 
 loop-again : tie.Need-loop-again Inv-loop μ-loop
-loop-again c = (omega arith, omega (arith, c .before .before .before .before .before .loop .inv .1), facts-more _ (c .before .before .before .before .before .loop .inv .2) refl refl refl (c .before .before .before .before .loop-test .taken) (c .before .before .put-fact .ensures))
+loop-again c = (omega arith, omega (arith, c .before .before .before .before .before .loop .inv .1), bits-more (c .before .before .before .before .before .loop .inv .2) facts-bitwise refl refl refl (c .before .before .before .before .loop-test .taken) (c .before .before .put-fact .ensures))
 
 pub put-facts-spec : {M : Type 1} → statement M
 put-facts-spec =
@@ -37,4 +37,4 @@ put-facts-spec =
     (λ c. omega arith)
     loop-again
     (λ c. c .before .loop .inv .2 .adding .long)
-    (λ c. facts-end _ (c .before .loop .inv .2) (c .loop-test .left)))
+    (λ c. bits-end (c .before .loop .inv .2) (c .loop-test .left)))
