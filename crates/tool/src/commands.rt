@@ -1,6 +1,7 @@
 // The commands on a file that was read. Each gets its bytes, the number of its next argument, and whether a refusal is to be explained.
 use crate::command::Command;
 use crate::describing::steps;
+use crate::failing;
 use crate::input::read_list;
 use crate::input::read_state;
 use crate::output::count;
@@ -79,6 +80,20 @@ pub fn on_list(command: Command, file: &[u8], next: usize, explain: bool) {
         Command::Expand => expand(file, list, explain),
         Command::Contract => contract(file, list, explain),
         _ => steps(file, list, explain),
+    }
+    if explain {
+        explain_list(command, file, list);
+    }
+}
+
+// Why the list is no plan.
+fn explain_list(command: Command, file: &[u8], list: &[u16]) {
+    match command {
+        Command::Run => failing::on_task(file, list),
+        Command::Follow => failing::on_probe(file, list),
+        Command::Expand => failing::on_task(file, list),
+        Command::Contract => failing::on_compiled(file, list),
+        _ => {}
     }
 }
 

@@ -2,6 +2,7 @@
 mod command;
 mod commands;
 mod describing;
+mod failing;
 mod input;
 mod output;
 mod saving;
