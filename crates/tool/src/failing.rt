@@ -1,5 +1,5 @@
 // Why a list is no plan, after its refusal: the entry that does not apply or the goal, with what fails. Nothing is written where the list is a plan, or is refused for something else.
-use crate::output::write;
+use crate::output::add;
 use compilation::Compiled;
 use taskfile::Task;
 use text::append::within;
@@ -20,14 +20,14 @@ fn length_of(answer: Described) -> usize {
 pub fn on_task(file: &[u8], list: &[u16]) {
     let mut text = [0; FAILURE_TEXT];
     let n = length_of(failure::task_failure(file, list, &mut text));
-    write(libc::STDOUT_FILENO, &text, n);
+    add(&text, n);
 }
 
 // Of a list of steps, on a probe file.
 pub fn on_probe(file: &[u8], list: &[u16]) {
     let mut text = [0; FAILURE_TEXT];
     let n = length_of(failure::probe_failure(file, list, &mut text));
-    write(libc::STDOUT_FILENO, &text, n);
+    add(&text, n);
 }
 
 // Of a list of steps, on the probe file written from a task.

@@ -84,6 +84,13 @@ pub fn refuse(explain: bool, subject: Subject, why: Refusal) {
     end(written, b"1");
 }
 
+// More about a refusal, where that went.
+pub fn add(text: &[u8], n: usize) {
+    if !write(refusal_stream(), text, n) {
+        os::fail(b"standard output");
+    }
+}
+
 // A number after its name.
 pub fn count(name: &[u8], n: u32) {
     let mut line = [0; LINE];
