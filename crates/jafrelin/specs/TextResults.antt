@@ -1,5 +1,5 @@
 -- Results of the C functions for texts: unpacked, they are the answers of their operations, for every file, list, number and buffer, as `results` says it of the others.
-use Prim.Native.Nat.{ℕ, suc, _+_, _≤_, _<_}
+use Prim.Native.Nat.{ℕ, suc, _+_, _≤_}
 use mathlib.Core.Path.{_≡_, refl, subst}
 use mathlib.Core.Bool.{Bool, true, false}
 use mathlib.Core.Option.{Option, none, some}

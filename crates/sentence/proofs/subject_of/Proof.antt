@@ -3,7 +3,6 @@ use mathlib.Core.Path.{sym, ap}
 use native.Mathlib.Omega.{arith}
 use Rattle.sentence.specs.Sentence.{subjectOf}
 use Rattle.sentence.specs.SentenceLaws.{contracted}
-use borrow.Author.Needs.{needs}
 use Rattle.sentence.proofs.subject_of.Statement.{statement}
 use Rattle.sentence.proofs.subject_of.Tie as tie
 
