@@ -1,19 +1,20 @@
-// The commands on a file that was read. Each gets its bytes, the number of its next argument, and whether a refusal is to be explained.
-use crate::command::Command;
+// The commands on a file that was read. Each gets its bytes, the number of its next argument, and what is asked for.
 use crate::describing::steps;
 use crate::failing;
-use crate::input::read_list;
-use crate::input::read_state;
-use crate::output::count;
-use crate::output::estimated;
-use crate::output::failed;
-use crate::output::listed;
-use crate::output::refuse;
-use crate::output::reply;
-use crate::output::within16;
 use crate::saving::save;
 use carry::Carried;
 use compilation::Compiled;
+use console::asking::Asked;
+use console::command::Command;
+use console::input::read_list;
+use console::input::read_state;
+use console::output::count;
+use console::output::estimated;
+use console::output::failed;
+use console::output::listed;
+use console::output::refuse;
+use console::output::reply;
+use console::output::within16;
 use estimate::Estimated;
 use facts::Checked;
 use facts::Ran;
@@ -43,30 +44,30 @@ pub fn accepted() {
 }
 
 // Whether a file is accepted; if not, its refusal is said.
-pub fn is_accepted(answer: Checked, explain: bool) -> bool {
+pub fn is_accepted(answer: Checked, asked: Asked) -> bool {
     match answer {
         Checked::Accepted => true,
         Checked::Refused(why) => {
-            refuse(explain, Subject::File, why);
+            refuse(asked, Subject::File, why);
             false
         }
     }
 }
 
 // `compile TASK PROBE`: the probe file of a task.
-pub fn compile(file: &[u8], next: usize, explain: bool) {
+pub fn compile(file: &[u8], next: usize, asked: Asked) {
     let mut out = [0; Task::MAX_WRITTEN];
     match compile::compile(file, &mut out) {
         Compiled::Length(length) => {
             let n = within(length, &out);
             save(next, &out[..n]);
         }
-        Compiled::Refused(why) => refuse(explain, Subject::File, why),
+        Compiled::Refused(why) => refuse(asked, Subject::File, why),
     }
 }
 
 // `run`, `follow`, `expand`, `contract`, `steps`: a command on the list that its next argument names.
-pub fn on_list(command: Command, file: &[u8], next: usize, explain: bool) {
+pub fn on_list(asked: Asked, file: &[u8], next: usize) {
     let mut entries = [0; LIST];
     let given = read_list(next, &mut entries);
     if !given.ok {
@@ -74,45 +75,47 @@ pub fn on_list(command: Command, file: &[u8], next: usize, explain: bool) {
     }
     let n = given.length;
     let list = &entries[..n];
+    let command = asked.command;
     match command {
-        Command::Run => summed(task::run(file, list), explain),
-        Command::Follow => summed(probe::run(file, list), explain),
-        Command::Expand => expand(file, list, explain),
-        Command::Contract => contract(file, list, explain),
-        _ => steps(file, list, explain),
+        Command::Run => summed(task::run(file, list), asked),
+        Command::Follow => summed(probe::run(file, list), asked),
+        Command::Expand => expand(file, list, asked),
+        Command::Contract => contract(file, list, asked),
+        _ => steps(file, list, asked),
     }
-    if explain {
-        explain_list(command, file, list);
+    if asked.explain {
+        explain_list(asked, file, list);
     }
 }
 
 // Why the list is no plan.
-fn explain_list(command: Command, file: &[u8], list: &[u16]) {
+fn explain_list(asked: Asked, file: &[u8], list: &[u16]) {
+    let command = asked.command;
     match command {
-        Command::Run => failing::on_task(file, list),
-        Command::Follow => failing::on_probe(file, list),
-        Command::Expand => failing::on_task(file, list),
-        Command::Contract => failing::on_compiled(file, list),
+        Command::Run => failing::on_task(asked, file, list),
+        Command::Follow => failing::on_probe(asked, file, list),
+        Command::Expand => failing::on_task(asked, file, list),
+        Command::Contract => failing::on_compiled(asked, file, list),
         _ => {}
     }
 }
 
 // The probe list that comes from a plan, and its sum.
-fn expand(file: &[u8], list: &[u16], explain: bool) {
+fn expand(file: &[u8], list: &[u16], asked: Asked) {
     let mut out = [0; LIST];
     let answer = expand::expand(file, list, &mut out);
-    carried(answer, &out, Subject::List, explain);
+    carried(answer, &out, Subject::List, asked);
 }
 
 // The plan that a probe list comes from, and its sum.
-fn contract(file: &[u8], list: &[u16], explain: bool) {
+fn contract(file: &[u8], list: &[u16], asked: Asked) {
     let mut out = [0; LIST];
     let answer = contract::contract(file, list, &mut out);
-    carried(answer, &out, Subject::Contracted, explain);
+    carried(answer, &out, Subject::Contracted, asked);
 }
 
 // `cost`, `relaxed`, `estimate`: a question about the state that the next argument names.
-pub fn on_state(question: Question, file: &[u8], next: usize, explain: bool) {
+pub fn on_state(question: Question, file: &[u8], next: usize, asked: Asked) {
     let mut values = [0; STATE];
     let given = read_state(next, &mut values);
     if !given.ok {
@@ -121,52 +124,52 @@ pub fn on_state(question: Question, file: &[u8], next: usize, explain: bool) {
     let n = given.length;
     let state = &values[..n];
     match question {
-        Question::Cost(action) => costed(task::cost(file, action, state), Subject::State, explain),
+        Question::Cost(action) => costed(task::cost(file, action, state), Subject::State, asked),
         Question::Relaxed(action) => costed(
             task_relaxed::relaxed_cost(file, action, state),
             Subject::Sets,
-            explain,
+            asked,
         ),
-        Question::TaskEstimate => number(task_estimate::estimate(file, state), explain),
-        Question::ProbeEstimate => number(probe_estimate::estimate(file, state), explain),
+        Question::TaskEstimate => number(task_estimate::estimate(file, state), asked),
+        Question::ProbeEstimate => number(probe_estimate::estimate(file, state), asked),
     }
 }
 
 // A sum.
-fn summed(answer: Ran, explain: bool) {
+fn summed(answer: Ran, asked: Asked) {
     match answer {
         Ran::Sum(sum) => {
             count(b"sum", sum);
         }
-        Ran::Refused(why) => refuse(explain, Subject::List, why),
+        Ran::Refused(why) => refuse(asked, Subject::List, why),
     }
 }
 
 // A list that was written into a buffer, and its sum.
-fn carried(answer: Carried, out: &[u16], subject: Subject, explain: bool) {
+fn carried(answer: Carried, out: &[u16], subject: Subject, asked: Asked) {
     match answer {
         Carried::List(length, sum) => {
             let n = within16(length, out);
             listed(&out[..n], sum);
         }
-        Carried::Refused(why) => refuse(explain, subject, why),
+        Carried::Refused(why) => refuse(asked, subject, why),
     }
 }
 
 // A cost.
-fn costed(answer: Costed, subject: Subject, explain: bool) {
+fn costed(answer: Costed, subject: Subject, asked: Asked) {
     match answer {
         Costed::Cost(n) => {
             count(b"cost", n);
         }
-        Costed::Refused(why) => refuse(explain, subject, why),
+        Costed::Refused(why) => refuse(asked, subject, why),
     }
 }
 
 // An estimate.
-fn number(answer: Estimated, explain: bool) {
+fn number(answer: Estimated, asked: Asked) {
     match answer {
         Estimated::Number(e) => estimated(e),
-        Estimated::Refused(why) => refuse(explain, Subject::State, why),
+        Estimated::Refused(why) => refuse(asked, Subject::State, why),
     }
 }

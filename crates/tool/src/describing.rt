@@ -1,9 +1,10 @@
 // The commands that describe a task, a probe file or a probe list in words.
-use crate::input::is_given;
-use crate::input::read_number;
-use crate::output::failed;
-use crate::output::refuse;
-use crate::output::reply;
+use console::asking::Asked;
+use console::input::is_given;
+use console::input::read_number;
+use console::output::failed;
+use console::output::refuse;
+use console::output::reply;
 use report::Subject;
 use words::Described;
 
@@ -15,53 +16,53 @@ const PROBE_TEXT: usize = 524288;
 const STEPS_TEXT: usize = 524288;
 
 // A text that was written into a buffer, or the refusal.
-fn described(answer: Described, text: &[u8], subject: Subject, explain: bool) {
+fn described(answer: Described, text: &[u8], subject: Subject, asked: Asked) {
     match answer {
         Described::Length(n) => {
             reply(text, n);
         }
-        Described::Refused(why) => refuse(explain, subject, why),
+        Described::Refused(why) => refuse(asked, subject, why),
     }
 }
 
 // `show TASK`: the task in words.
-pub fn show(file: &[u8], explain: bool) {
+pub fn show(file: &[u8], asked: Asked) {
     let mut text = [0; TASK_TEXT];
     let answer = describe::show(file, &mut text);
-    described(answer, &text, Subject::File, explain);
+    described(answer, &text, Subject::File, asked);
 }
 
 // `show PROBE`: the probe file in words.
-pub fn show_probe(file: &[u8], explain: bool) {
+pub fn show_probe(file: &[u8], asked: Asked) {
     let mut text = [0; PROBE_TEXT];
     let answer = describe_probe::show(file, &mut text);
-    described(answer, &text, Subject::File, explain);
+    described(answer, &text, Subject::File, asked);
 }
 
 // `draw TASK [ACTION]`: all cost diagrams, or an action's.
-pub fn draw(file: &[u8], next: usize, explain: bool) {
+pub fn draw(file: &[u8], next: usize, asked: Asked) {
     if is_given(next) {
-        return draw_action(file, next, explain);
+        return draw_action(file, next, asked);
     }
     let mut text = [0; TASK_TEXT];
     let answer = draw::draw(file, &mut text);
-    described(answer, &text, Subject::File, explain);
+    described(answer, &text, Subject::File, asked);
 }
 
 // The cost diagram of the action whose number is an argument.
-fn draw_action(file: &[u8], next: usize, explain: bool) {
+fn draw_action(file: &[u8], next: usize, asked: Asked) {
     let given = read_number(next);
     if !given.ok {
         return failed();
     }
     let mut text = [0; TASK_TEXT];
     let answer = draw::draw_action(file, given.length, &mut text);
-    described(answer, &text, Subject::State, explain);
+    described(answer, &text, Subject::State, asked);
 }
 
 // `steps TASK LIST`: each step of a probe list by name.
-pub fn steps(file: &[u8], list: &[u16], explain: bool) {
+pub fn steps(file: &[u8], list: &[u16], asked: Asked) {
     let mut text = [0; STEPS_TEXT];
     let answer = steps::name_steps(file, list, &mut text);
-    described(answer, &text, Subject::List, explain);
+    described(answer, &text, Subject::List, asked);
 }

@@ -1,6 +1,7 @@
 // Why a list is no plan, after its refusal: the entry that does not apply or the goal, with what fails. Nothing is written where the list is a plan, or is refused for something else.
-use crate::output::add;
 use compilation::Compiled;
+use console::asking::Asked;
+use console::output::add;
 use taskfile::Task;
 use text::append::within;
 use words::Described;
@@ -17,26 +18,26 @@ fn length_of(answer: Described) -> usize {
 }
 
 // Of a list of actions, on a task.
-pub fn on_task(file: &[u8], list: &[u16]) {
+pub fn on_task(asked: Asked, file: &[u8], list: &[u16]) {
     let mut text = [0; FAILURE_TEXT];
     let n = length_of(failure::task_failure(file, list, &mut text));
-    add(&text, n);
+    add(asked, &text, n);
 }
 
 // Of a list of steps, on a probe file.
-pub fn on_probe(file: &[u8], list: &[u16]) {
+pub fn on_probe(asked: Asked, file: &[u8], list: &[u16]) {
     let mut text = [0; FAILURE_TEXT];
     let n = length_of(failure::probe_failure(file, list, &mut text));
-    add(&text, n);
+    add(asked, &text, n);
 }
 
 // Of a list of steps, on the probe file written from a task.
-pub fn on_compiled(file: &[u8], list: &[u16]) {
+pub fn on_compiled(asked: Asked, file: &[u8], list: &[u16]) {
     let mut out = [0; Task::MAX_WRITTEN];
     match compile::compile(file, &mut out) {
         Compiled::Length(length) => {
             let n = within(length, &out);
-            on_probe(&out[..n], list);
+            on_probe(asked, &out[..n], list);
         }
         Compiled::Refused(_) => {}
     }

@@ -1,7 +1,7 @@
 // A file that is written: beside its name first, and renamed when it is whole.
-use crate::output::done;
-use crate::output::failed;
-use crate::output::reply;
+use console::output::done;
+use console::output::failed;
+use console::output::reply;
 use text::append::append;
 use text::append::within;
 ghost use Rattle.io.specs.Counts.{Counts};

@@ -1,5 +1,6 @@
 // What the tool writes: answers to standard output, sums of lists and what is wrong to standard error, and a digit for the exit status to descriptor 3. A write that fails is told, and the status is 2.
-use crate::command::refusal_stream;
+use crate::asking::Asked;
+use arguments::Wrong;
 use estimate::Est;
 use facts::Refusal;
 use report::Fault;
@@ -13,6 +14,9 @@ const STATUS: i32 = 3;
 
 // The most bytes of a line.
 const LINE: usize = 512;
+
+// The same with words of the command line, which have 4096 bytes at most, in it.
+const LONG_LINE: usize = 8704;
 
 // The most bytes of a list as text: five digits and a blank for each entry.
 const LIST_TEXT: usize = 65536;
@@ -53,11 +57,6 @@ pub fn done() {
     io::write_all(STATUS, b"0");
 }
 
-// The arguments are none that the tool takes.
-pub fn usage() {
-    io::write_all(STATUS, b"3");
-}
-
 // Something was not had, and why is said already.
 pub fn failed() {
     io::write_all(STATUS, b"2");
@@ -70,13 +69,33 @@ pub fn fault(why: Fault) {
     write(libc::STDERR_FILENO, &line, n);
 }
 
+// What is wrong with the command line, with argument i, if that is it.
+pub fn complain(i: usize, why: Wrong) {
+    let mut command = io::buffer();
+    let n = os::arg(1, &mut command);
+    let mut word = io::buffer();
+    let m = os::arg(i, &mut word);
+    let mut line = [0; LONG_LINE];
+    let end = arguments::put_wrong(&mut line, 0, &command[..n], &word[..m], why);
+    write(libc::STDERR_FILENO, &line, end);
+}
+
+// The file was refused as one kind, and is accepted as the other: a probe file, or a task file.
+pub fn hint(i: usize, either: bool, probe: bool) {
+    let mut word = io::buffer();
+    let n = os::arg(i, &mut word);
+    let mut line = [0; LONG_LINE];
+    let end = arguments::put_hint(&mut line, 0, &word[..n], either, probe);
+    write(libc::STDERR_FILENO, &line, end);
+}
+
 // A refusal, and if it is asked for a sentence that explains it.
-pub fn refuse(explain: bool, subject: Subject, why: Refusal) {
-    let to = refusal_stream();
+pub fn refuse(asked: Asked, subject: Subject, why: Refusal) {
+    let to = asked.stream;
     let mut line = [0; LINE];
     let n = report::put_refusal(&mut line, 0, why);
     let mut written = write(to, &line, n);
-    if explain {
+    if asked.explain {
         let mut sentence = [0; LINE];
         let m = explain::put_explanation(&mut sentence, 0, subject, why);
         written = write(to, &sentence, m) && written;
@@ -85,8 +104,8 @@ pub fn refuse(explain: bool, subject: Subject, why: Refusal) {
 }
 
 // More about a refusal, where that went.
-pub fn add(text: &[u8], n: usize) {
-    if !write(refusal_stream(), text, n) {
+pub fn add(asked: Asked, text: &[u8], n: usize) {
+    if !write(asked.stream, text, n) {
         os::fail(b"standard output");
     }
 }

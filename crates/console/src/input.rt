@@ -35,6 +35,11 @@ pub fn is_given(i: usize) -> bool {
     i < os::arg_count()
 }
 
+// Whether argument i is standard input: `-`, or left out.
+pub fn is_input(i: usize) -> bool {
+    !is_given(i) || is_word(i, b"-")
+}
+
 // Whether the name in argument i ends in `.probe`.
 pub fn is_probe_name(i: usize) -> bool {
     let mut name = io::buffer();

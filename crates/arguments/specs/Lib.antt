@@ -1,0 +1,4 @@
+-- Definitions.
+pub mod Arguments
+-- The examples, computed.
+pub mod Examples
