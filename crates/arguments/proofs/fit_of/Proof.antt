@@ -1,5 +1,6 @@
 -- `arguments::fit_of` meets its contract case by case. Assumes nothing.
 use mathlib.Core.Path.{ap}
+use native.Mathlib.Omega.{arith}
 use borrow.Author.Needs.{needs}
 use borrow.Author.Tests.{lt-ltb, le-ltb}
 use Rattle.arguments.specs.declared.Fit.the-variants.{Missing}
@@ -12,6 +13,6 @@ fit-of-spec =
     tie.close
     (tie.spec
     (λ c. search needs)
-    (λ c. let a = c .before .before .before .args in rw (lt-ltb (a .count) (a .shape .least) (c .before .if1 .taken), fitOf, c .name-at .ensures))
-    (λ c. let a = c .before .before .before .before .args in rw (le-ltb (a .count) (a .shape .least) (c .before .before .if1 .left), lt-ltb (a .shape .most) (a .count) (c .if2 .taken), fitOf))
-    (λ c. let a = c .before .before .before .before .args in rw (le-ltb (a .count) (a .shape .least) (c .before .before .if1 .left), le-ltb (a .shape .most) (a .count) (c .if2 .left), fitOf)))
+    (λ c. let a = c .before .before .before .args in rw (lt-ltb (a .count) (a .shape .least) (omega arith), fitOf, c .name-at .ensures))
+    (λ c. let a = c .before .before .before .before .args in rw (le-ltb (a .count) (a .shape .least) (omega arith), lt-ltb (a .shape .most) (a .count) (omega arith), fitOf))
+    (λ c. let a = c .before .before .before .before .args in rw (le-ltb (a .count) (a .shape .least) (omega arith), le-ltb (a .shape .most) (a .count) (omega arith), fitOf)))
