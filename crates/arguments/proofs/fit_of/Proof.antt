@@ -1,10 +1,8 @@
 -- `arguments::fit_of` meets its contract case by case. Assumes nothing.
-use mathlib.Core.Path.{ap}
 use native.Mathlib.Omega.{arith}
 use borrow.Author.Needs.{needs}
 use borrow.Author.Tests.{lt-ltb, le-ltb}
-use Rattle.arguments.specs.declared.Fit.the-variants.{Missing}
-use Rattle.arguments.specs.Arguments.{nameAt, fitOf}
+use Rattle.arguments.specs.Arguments.{fitOf}
 use Rattle.arguments.proofs.fit_of.Statement.{statement}
 use Rattle.arguments.proofs.fit_of.Tie as tie
 

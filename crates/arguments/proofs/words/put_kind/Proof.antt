@@ -1,7 +1,7 @@
 -- `arguments::words::put_kind` meets its contract: one part straight after the other. Assumes nothing.
 use mathlib.Core.Path.{sym, ap}
 use borrow.Author.Needs.{needs}
-use Rattle.text.specs.AppendLaws.{adds-as, adds-then}
+use Rattle.text.specs.AppendLaws.{adds-as}
 use Rattle.arguments.specs.Arguments.{kindText}
 use Rattle.arguments.proofs.words.put_kind.Statement.{statement}
 use Rattle.arguments.proofs.words.put_kind.Tie as tie

@@ -1,7 +1,7 @@
 -- `arguments::words::put_name` meets its contract: one part straight after the other. Assumes nothing.
 use mathlib.Core.Path.{sym, ap}
 use borrow.Author.Needs.{needs}
-use Rattle.text.specs.AppendLaws.{adds-as, adds-then}
+use Rattle.text.specs.AppendLaws.{adds-as}
 use Rattle.arguments.specs.Arguments.{nameText}
 use Rattle.arguments.proofs.words.put_name.Statement.{statement}
 use Rattle.arguments.proofs.words.put_name.Tie as tie

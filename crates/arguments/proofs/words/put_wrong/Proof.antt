@@ -1,6 +1,6 @@
 -- `arguments::words::put_wrong` meets its contract: one part straight after the other. Assumes nothing.
 use borrow.Author.Needs.{needs}
-use Rattle.text.specs.AppendLaws.{adds-as, adds-then}
+use Rattle.text.specs.AppendLaws.{adds-then}
 use Rattle.arguments.proofs.words.put_wrong.Statement.{statement}
 use Rattle.arguments.proofs.words.put_wrong.Tie as tie
 
