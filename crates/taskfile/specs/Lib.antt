@@ -13,7 +13,8 @@ pub mod DiagramReadLaws
 pub mod TaskReadLaws
 pub mod TaskLaws
 pub mod FrontLaws
-pub mod InPlaceLaws
+pub mod NotedLaws
+pub mod TargetLaws
 pub mod WalkInPlaceLaws
 pub mod MoveInPlaceLaws
 pub mod IndexLaws

@@ -1,6 +1,6 @@
 -- `diagram::ahead` meets its contract: both tests are made. Assumes nothing.
 use borrow.Author.Needs.{needs}
-use Rattle.taskfile.specs.InPlaceLaws.{not-ahead, ahead-is}
+use Rattle.taskfile.specs.TargetLaws.{not-ahead, ahead-is}
 use Rattle.diagram.proofs.ahead.Statement.{statement}
 use Rattle.diagram.proofs.ahead.Tie as tie
 

@@ -11,7 +11,8 @@ use Rattle.facts.specs.Fields.{nextOf, valueOf, readCount}
 use Rattle.taskfile.specs.Task.{maxNodes}
 use Rattle.taskfile.specs.TaskFile.{readNodes}
 use Rattle.taskfile.specs.Row.{nodesFrom}
-use Rattle.taskfile.specs.InPlaceLaws.{all-terminal, back, marked-part, length-part, levels-part, drawn-no-count, drawn-no-nodes, drawn-falls, drawn-good, count-fits, count-most, all-inside, placed}
+use Rattle.taskfile.specs.NotedLaws.{all-terminal, back, marked-part, length-part, levels-part, count-fits, count-most, all-inside, placed}
+use Rattle.taskfile.specs.TargetLaws.{drawn-no-count, drawn-no-nodes, drawn-falls, drawn-good}
 use borrow.Rule.Slice.PartMut.{mid-len}
 use borrow.Author.Needs.{needs}
 use native.Mathlib.Omega.{arith}

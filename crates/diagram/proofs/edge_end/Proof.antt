@@ -6,7 +6,7 @@ use Rattle.facts.specs.Answers.{fieldAnswer, pastAnswer}
 use Rattle.facts.specs.Fields.{nextOf}
 use Rattle.facts.specs.FieldLaws.{number-read}
 use Rattle.taskfile.specs.TaskFile.{readTarget}
-use Rattle.taskfile.specs.InPlaceLaws.{edge-no-target, edge-no-weight, edge-good}
+use Rattle.taskfile.specs.TargetLaws.{edge-no-target, edge-no-weight, edge-good}
 use borrow.Author.Needs.{needs}
 use native.Mathlib.Omega.{arith}
 use Rattle.diagram.proofs.edge_end.Statement.{statement}

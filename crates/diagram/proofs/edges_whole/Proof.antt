@@ -8,7 +8,7 @@ use Rattle.facts.specs.ListLaws.{length-upFrom}
 use Rattle.facts.specs.Fields.{nextOf, each}
 use Rattle.facts.specs.EachLaws.{each-on, each-stops, each-done}
 use Rattle.taskfile.specs.TaskFile.{edgeBytes, readEdge, readEdges}
-use Rattle.taskfile.specs.InPlaceLaws.{edge-wrong, edge-whole}
+use Rattle.taskfile.specs.TargetLaws.{edge-wrong, edge-whole}
 use borrow.Author.Needs.{needs}
 use native.Mathlib.Omega.{arith}
 use Rattle.diagram.proofs.edges_whole.Statement.{statement}

@@ -3,7 +3,7 @@ use mathlib.Core.Path.{sym}
 use lib.ListN.{List·getD-eq-default}
 use native.Mathlib.Omega.{arith}
 use denote.Ref.{now}
-use Rattle.taskfile.specs.InPlaceLaws.{getD-within}
+use Rattle.taskfile.specs.NotedLaws.{getD-within}
 use borrow.Author.Needs.{needs}
 use Rattle.diagram.proofs.level_of.Statement.{statement}
 use Rattle.diagram.proofs.level_of.Tie as tie

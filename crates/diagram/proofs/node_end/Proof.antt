@@ -1,7 +1,7 @@
 -- `diagram::node_end` meets its contract: a variable of the task, and then the edges. Assumes nothing.
 use Prim.Native.Nat.{_<_}
 use mathlib.Core.Path.{sym, _∙_}
-use Rattle.taskfile.specs.InPlaceLaws.{node-ends, node-no-variable, node-edges}
+use Rattle.taskfile.specs.TargetLaws.{node-ends, node-no-variable, node-edges}
 use denote.Ref.{now}
 use lib.ListN.{getD}
 use borrow.Author.Needs.{needs}

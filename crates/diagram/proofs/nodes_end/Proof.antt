@@ -16,7 +16,7 @@ use Rattle.facts.specs.InPlaceLaws.{marks-more}
 use Rattle.taskfile.specs.Task.{maxNodes}
 use Rattle.taskfile.specs.TaskFile.{readNode, readNodes}
 use Rattle.taskfile.specs.InPlace.{Levels, readFirst}
-use Rattle.taskfile.specs.InPlaceLaws.{levels-none, nodeNoted, noted-length, noted-other, levels-more, left-on, left-stops, first-more, marked-none}
+use Rattle.taskfile.specs.NotedLaws.{levels-none, nodeNoted, noted-length, noted-other, levels-more, left-on, left-stops, first-more, marked-none}
 use borrow.Author.Needs.{needs}
 use native.Mathlib.Omega.{arith}
 use Rattle.diagram.proofs.nodes_end.Statement.{statement}

@@ -5,7 +5,7 @@ use denote.Ref.{now}
 use lib.ListN.{getD}
 use Rattle.facts.specs.Answers.{checkedAnswer}
 use Rattle.taskfile.specs.InPlace.{nodesRise}
-use Rattle.taskfile.specs.InPlaceLaws.{nodes-fall, nodes-on, nodes-done}
+use Rattle.taskfile.specs.TargetLaws.{nodes-fall, nodes-on, nodes-done}
 use Rattle.taskfile.specs.PartsInPlace.{Tests}
 use borrow.Author.Needs.{needs}
 use native.Mathlib.Omega.{arith}

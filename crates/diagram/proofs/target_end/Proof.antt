@@ -1,7 +1,7 @@
 -- `diagram::target_end` meets its contract: a target is one byte, and lies ahead. Assumes nothing.
 use mathlib.Core.Path.{sym, ap, _∙_}
 use Rattle.facts.specs.Fields.{nextOf}
-use Rattle.taskfile.specs.InPlaceLaws.{target-ends, target-wrong, target-good}
+use Rattle.taskfile.specs.TargetLaws.{target-ends, target-wrong, target-good}
 use borrow.Author.Needs.{needs}
 use native.Mathlib.Omega.{arith}
 use Rattle.diagram.proofs.target_end.Statement.{statement}

@@ -3,7 +3,7 @@ use Prim.Native.Nat.{_+_, _*_, _≤_}
 use mathlib.Core.Path.{_≡_, refl, sym, _∙_}
 use Rattle.taskfile.specs.TaskFile.{edgeBytes}
 use Rattle.taskfile.specs.InPlace.{targetsRise}
-use Rattle.taskfile.specs.InPlaceLaws.{targets-fall, targets-on, targets-done}
+use Rattle.taskfile.specs.TargetLaws.{targets-fall, targets-on, targets-done}
 use borrow.Author.Needs.{needs}
 use native.Mathlib.Omega.{arith}
 use Rattle.diagram.proofs.targets_rise.Statement.{statement}
