@@ -6,13 +6,12 @@ use native.Mathlib.Omega.{arith}
 use mathlib.Core.List.{List, [], _∷_, _++_, append-assoc}
 use lib.ListN.{length, getD, drop, set, length-append}
 use lib.Seq.{drop-cons, set-at}
-use borrow.Author.Tests.{lt-leb}
-use Rattle.facts.specs.Read.{Read, accepted, refused, _>>=_}
-use Rattle.facts.specs.Write.{over, Wrote}
-use Rattle.facts.specs.WriteLaws.{fitting-none}
+use Rattle.facts.specs.Read.{Read, accepted, refused, withValue}
+use Rattle.facts.specs.Write.{over, lengthIn, Wrote}
+use Rattle.facts.specs.WriteLaws.{refused-in as no-list, short-in as short-list, wrote-in as wrote-list}
 use Rattle.facts.specs.WriteRowLaws.{Cut, Going, going-same}
-use Rattle.carry.specs.CarryFile.{answerIn, bufferIn}
-use Rattle.carry.specs.SameSumLaws.{answer-in, buffer-in}
+use Rattle.carry.specs.CarryFile.{listOf, answerIn, bufferIn}
+use Rattle.carry.specs.SameSumLaws.{answer-with}
 
 -- ---- what is written one entry after the other
 
@@ -47,16 +46,20 @@ module _ {whole rest before now more : List ℕ} {at x : ℕ} (g : Going whole r
 
 module _ {carried : Read (List ℕ × ℕ)} where
   -- A refusal writes nothing.
-  pub refused-in : (out : List ℕ) {n p : ℕ} → carried ≡ refused n p → (answerIn (length out) carried ≡ refused n p) × (bufferIn out carried ≡ out)
-  unfolding answerIn bufferIn
-  refused-in out h = (rw h, rw (h, bufferIn))
+  pub refused-in : (out : List ℕ) {n p : ℕ} → carried ≡ refused n p → (refused n p ≡ answerIn (length out) carried) × (out ≡ bufferIn out carried)
+  unfolding answerIn
+  refused-in out h = (rw h, no-list out (ap listOf h) .1)
 
   module _ {list : List ℕ} {c : ℕ} (h : carried ≡ accepted (list, c)) where
+    -- What is answered and written for the list is answered with the sum.
+    with-sum : (out : List ℕ) {now : List ℕ} {answer : Read ℕ} → (answer ≡ lengthIn (length out) (listOf carried)) × (now ≡ bufferIn out carried)
+        → (withValue (λ (n : ℕ). (n, c)) answer ≡ answerIn (length out) carried) × (now ≡ bufferIn out carried)
+    with-sum out r = (ap (withValue (λ (n : ℕ). (n, c))) (r .0) ∙ sym (answer-with h (length out)), r .1)
+
     -- Nor does a buffer that is too short.
-    pub short-in : (out : List ℕ) {needed : ℕ} → needed ≡ length list → length out < needed → (answerIn (length out) carried ≡ refused 7 needed) × (bufferIn out carried ≡ out)
-    unfolding answerIn bufferIn over
-    short-in out e l = let m : length out < length list = omega arith in (rw (h, lt-leb (length list) (length out) m, e), rw (h, bufferIn, fitting-none list out m))
+    pub short-in : (out : List ℕ) {needed : ℕ} → needed ≡ length list → length out < needed → (refused 7 needed ≡ answerIn (length out) carried) × (out ≡ bufferIn out carried)
+    short-in out e l = with-sum out (short-list (ap listOf h) out e l)
 
     -- Else the list is written, and its length and its sum are the answer.
-    pub wrote-in : {out now : List ℕ} {n : ℕ} → length list ≤ length out → Wrote list out now n → (answerIn (length out) carried ≡ accepted (n, c)) × (bufferIn out carried ≡ now)
-    wrote-in {out} l w = (answer-in h l ∙ ap (λ (k : ℕ). accepted (k, c)) (sym (w .count)), buffer-in h out l ∙ sym (w .buffer))
+    pub wrote-in : {out now : List ℕ} {n : ℕ} → length list ≤ length out → Wrote list out now n → (accepted (n, c) ≡ answerIn (length out) carried) × (now ≡ bufferIn out carried)
+    wrote-in {out} l w = with-sum out (wrote-list (ap listOf h) l w)

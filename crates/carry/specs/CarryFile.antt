@@ -2,10 +2,8 @@
 use Prim.Native.Nat.{ℕ, zero, suc}
 use mathlib.Core.List.{List, [], _∷_}
 use mathlib.Core.Option.{none, some}
-use lib.Dec.{leb}
-use lib.ListN.{length}
-use Rattle.facts.specs.Read.{Read, accepted, refused, check, _>>=_}
-use Rattle.facts.specs.Write.{over, fitting}
+use Rattle.facts.specs.Read.{Read, accepted, refused, withValue, _>>=_}
+use Rattle.facts.specs.Write.{lengthIn, writtenIn}
 use Rattle.facts.specs.Run.{atMost}
 use Rattle.taskfile.specs.Task.{Action, maxList, taskSum}
 use Rattle.taskfile.specs.TaskFile.{readTask}
@@ -41,13 +39,16 @@ contracted f list = do
   _ ← startsAtMost (t .actions) maxList 0 list
   accepted (contract t list, sum)
 
--- the answer, with a buffer that has room for so many entries: length and sum; 7 with the length needed
+-- the list that is carried, without its sum
+abbrev pub listOf : Read (List ℕ × ℕ) → Read (List ℕ)
+listOf carried = withValue (λ (c : List ℕ × ℕ). c .0) carried
+
+-- the answer, with a buffer that has room for so many entries: the length, as for every operation that writes, and the sum
 unfoldable pub answerIn : ℕ → Read (List ℕ × ℕ) → Read (ℕ × ℕ)
 answerIn room carried = do
   (list, sum) ← carried
-  _ ← check (leb (length list) room) 7 (length list)
-  accepted (length list, sum)
+  withValue (λ (n : ℕ). (n, sum)) (lengthIn room (accepted list))
 
--- the buffer afterwards: the list at its front where it has room for all of it, and as it was where anything is refused
-unfoldable pub bufferIn : List ℕ → Read (List ℕ × ℕ) → List ℕ
-bufferIn out carried = elim carried [ accepted c ↦ over (fitting (c .0) out) out | refused n p ↦ out ]
+-- the buffer afterwards, as for every operation that writes
+abbrev pub bufferIn : List ℕ → Read (List ℕ × ℕ) → List ℕ
+bufferIn out carried = writtenIn out (listOf carried)

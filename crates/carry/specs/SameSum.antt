@@ -22,10 +22,11 @@ use Rattle.probefile.specs.ProbeFile.{readProbe, writeProbe}
 use Rattle.compilation.specs.Compile.{probeOf}
 use Rattle.compilation.specs.CompiledLaws.{compiled-reads}
 use Rattle.compilation.specs.CompileFile.{compileFile, compiledBuffer}
+use Rattle.compilation.specs.CompileFileLaws.{compiled-from}
 use Rattle.plans.specs.Carry.{expand, contract}
 use Rattle.plans.specs.Plans.{carries}
 use Rattle.carry.specs.CarryFile.{expanded, contracted, answerIn, bufferIn}
-use Rattle.carry.specs.SameSumLaws.{answer-in, buffer-in, answer-inv, compiled-from, compiled-bytes, compiled-answers, expanded-plan, contracted-plan, expanded-back, contracted-back}
+use Rattle.carry.specs.SameSumLaws.{answer-in, buffer-in, answer-inv, compiled-bytes, compiled-answers, expanded-plan, contracted-plan, expanded-back, contracted-back}
 
 -- ---- demand 3
 

@@ -4,13 +4,12 @@ use Prim.Native.Nat.{ℕ, _≤_}
 use native.Mathlib.Nat.{le-trans}
 use mathlib.Core.List.{List}
 use lib.Dec.{leb}
-use lib.ListN.{length, take, drop}
-use lib.Seq.{take-at}
-use borrow.Author.Tests.{le-leb, leb-true}
-use Rattle.facts.specs.Read.{Read, accepted, check}
-use Rattle.facts.specs.ReadLaws.{through, onward, checked, value-of, next-of}
-use Rattle.facts.specs.Write.{over}
-use Rattle.facts.specs.WriteLaws.{fitting-all}
+use lib.ListN.{length, take}
+use borrow.Author.Tests.{leb-true}
+use Rattle.facts.specs.Read.{Read, accepted, refused, withValue}
+use Rattle.facts.specs.ReadLaws.{through, onward, checked, made, value-of, next-of}
+use Rattle.facts.specs.Write.{over, lengthIn}
+use Rattle.facts.specs.WriteLaws.{length-in, written-in, written-inv}
 use Rattle.facts.specs.Run.{atMost}
 use Rattle.facts.specs.RunLaws.{list-fits}
 use Rattle.taskfile.specs.Task.{Task, maxList, taskSum, Plan, maxWritten}
@@ -23,37 +22,41 @@ use Rattle.probefile.specs.ProbeFile.{writeProbe}
 use Rattle.probefile.specs.ProbeLaws.{probe-plan}
 use Rattle.compilation.specs.Compile.{probeOf}
 use Rattle.compilation.specs.CompiledLengthLaws.{compiled-length}
-use Rattle.compilation.specs.CompileFile.{compileFile, compiledBuffer}
-use Rattle.compilation.specs.ProgramLaws.{answer-fits}
+use Rattle.compilation.specs.CompileFile.{probeFileOf, compileFile, compiledBuffer}
+use Rattle.compilation.specs.CompileFileLaws.{file-of}
 use Rattle.plans.specs.Carry.{expand, contract}
 use Rattle.plans.specs.Forward.{forward}
 use Rattle.plans.specs.Contract.{contract-expand}
 use Rattle.plans.specs.LengthLaws.{expand-fits}
 use Rattle.plans.specs.Plans.{carries}
-use Rattle.carry.specs.CarryFile.{expanded, startsAtMost, contracted, answerIn, bufferIn}
+use Rattle.carry.specs.CarryFile.{expanded, startsAtMost, contracted, listOf, answerIn, bufferIn}
 use Rattle.carry.specs.StartLaws.{starts-within, starts-kept}
 
 -- ---- what stands in a buffer
 
--- What was written at the front of a buffer stands there.
-pub over-front : (list out : List ℕ) → take (length list) (over list out) ≡ list
-unfolding over
-over-front list out = take-at list (drop (length list) out) (length list) refl
+-- The answer without the sum is that of the list.
+pub answer-length : (room : ℕ) (carried : Read (List ℕ × ℕ)) → withValue (λ (c : ℕ × ℕ). c .0) (answerIn room carried) ≡ lengthIn room (listOf carried)
+unfolding answerIn lengthIn
+answer-length room (accepted c) = go (lengthIn room (accepted (c .0)))
+  where
+    go : (r : Read ℕ) → withValue (λ (c : ℕ × ℕ). c .0) (withValue (λ (n : ℕ). (n, c .1)) r) ≡ r
+    go (accepted n) = refl
+    go (refused n p) = refl
+answer-length room (refused n p) = refl
 
 module _ {carried : Read (List ℕ × ℕ)} {list : List ℕ} {c : ℕ} (h : carried ≡ accepted (list, c)) where
+  -- The answer is that of the list, with the sum.
+  pub answer-with : (room : ℕ) → answerIn room carried ≡ withValue (λ (n : ℕ). (n, c)) (lengthIn room (listOf carried))
+  unfolding answerIn
+  answer-with room = rw h
+
   -- With room for a list that is carried, the answer is its length and its sum.
   pub answer-in : {room : ℕ} → length list ≤ room → answerIn room carried ≡ accepted (length list, c)
-  unfolding answerIn
-  answer-in {room} l = rw (h, le-leb (length list) room l)
+  answer-in {room} l = answer-with room ∙ ap (withValue (λ (n : ℕ). (n, c))) (length-in (ap listOf h) l)
 
   -- And the list is written at the buffer's front.
   pub buffer-in : (out : List ℕ) → length list ≤ length out → bufferIn out carried ≡ over list out
-  unfolding bufferIn
-  buffer-in out l = rw (h, fitting-all list out l)
-
-  -- As many entries as were answered are the list.
-  pub front-in : (out : List ℕ) → length list ≤ length out → take (length list) (bufferIn out carried) ≡ list
-  front-in out l = rw (buffer-in out l) (over-front list out)
+  buffer-in out l = written-in (ap listOf h) out l
 
 -- a list is carried, and stands at the front of the buffer
 pub record Answered (carried : Read (List ℕ × ℕ)) (out : List ℕ) (n c : ℕ) : Type 0 where
@@ -66,49 +69,23 @@ pub answer-inv : (carried : Read (List ℕ × ℕ)) (out : List ℕ) {n c : ℕ}
 unfolding answerIn
 answer-inv carried out {n} {c} h =
     let a = through carried h in
-    let list = a .got .0 in
-    let b = through (check (leb (length list) (length out)) 7 (length list)) (a .then) in
-    let is = a .first ∙ ap (λ (k : ℕ). accepted (list, k)) (next-of (b .then)) in
-    let fits = leb-true (length list) (length out) (checked (leb (length list) (length out)) 7 (length list) (b .first)) in
-    record { list = list; is = is; front = rw (value-of (b .then)) at (front-in is out fits) }
+    let m = made (λ (n : ℕ). (n, a .got .1)) (lengthIn (length out) (accepted (a .got .0))) (a .then) in
+    let front = written-inv (listOf carried) out (sym (answer-length (length out) carried) ∙ ap (withValue (λ (c : ℕ × ℕ). c .0)) h) in
+    record {
+      list = a .got .0;
+      is = a .first ∙ ap (λ (k : ℕ). accepted (a .got .0, k)) (ap (λ (c : ℕ × ℕ). c .1) (m .value));
+      front = cc (front, ap listOf (a .first));
+    }
 
 -- ---- what compiling writes
 
--- the length of a task's probe file
-abbrev written : Task → ℕ
-written t = length (writeProbe (probeOf t))
-
--- With room for it, the probe file of the task of f stands at the front.
-compiled-front : (f out : List ℕ) {t : Task} → readTask f ≡ accepted t → written t ≤ length out → take (written t) (compiledBuffer f out) ≡ writeProbe (probeOf t)
-unfolding compiledBuffer
-compiled-front f out {t} h l = rw (h, compiledBuffer, fitting-all (writeProbe (probeOf t)) out l) (over-front (writeProbe (probeOf t)) out)
-
--- f has a task, and the n bytes at the front of the buffer are its probe file
-pub record CompiledFrom (f out : List ℕ) (n : ℕ) : Type 0 where
-  pub t : Task
-  pub task : readTask f ≡ accepted t
-  pub bytes : take n (compiledBuffer f out) ≡ writeProbe (probeOf t)
-
--- Where compiling answers a length, so many bytes are a task's probe file.
-pub compiled-from : (f out : List ℕ) {n : ℕ} → compileFile f (length out) ≡ accepted n → CompiledFrom f out n
-unfolding compileFile
-compiled-from f out {n} h =
-    let a = through (readTask f) h in
-    let b = through (check (leb (written (a .got)) (length out)) 7 (written (a .got))) (a .then) in
-    let same : written (a .got) ≡ n = cc (b .then) in
-    record { t = a .got; task = a .first; bytes = rw same at (compiled-front f out (a .first) (rw same (answer-fits f (length out) h))) }
-
--- If f has the task t, it is the one of t.
+-- If f has the task t, what is written is the probe file of t.
 pub compiled-bytes : (f out : List ℕ) {t : Task} {n : ℕ} → readTask f ≡ accepted t → compileFile f (length out) ≡ accepted n → take n (compiledBuffer f out) ≡ writeProbe (probeOf t)
-compiled-bytes f out {t} h e =
-    let w = compiled-from f out e in
-    let same : w .t ≡ t = cc (w .task, h) in
-    w .bytes ∙ ap (λ (z : Task). writeProbe (probeOf z)) same
+compiled-bytes f out h e = cc (written-inv (probeFileOf f) out e, file-of f h)
 
 -- A buffer of 13,846 bytes has room for the probe file of each accepted task.
 pub compiled-answers : (f : List ℕ) {t : Task} → readTask f ≡ accepted t → {room : ℕ} → maxWritten ≤ room → compileFile f room ≡ accepted (length (writeProbe (probeOf t)))
-unfolding compileFile
-compiled-answers f {t} h {room} l = rw (h, le-leb (written t) room (le-trans (compiled-length f h) l))
+compiled-answers f h l = length-in (file-of f h) (le-trans (compiled-length f h) l)
 
 -- ---- what the operations answer for a plan of at most 256 actions
 

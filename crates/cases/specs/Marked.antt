@@ -7,16 +7,17 @@ use mathlib.Core.List.{List, [], _∷_, _++_}
 use lib.ListN.{length, drop-of-length-le}
 use Rattle.facts.specs.Read.{accepted, refused}
 use Rattle.facts.specs.Write.{over}
-use Rattle.facts.specs.WriteLaws.{fitting-all}
+use Rattle.facts.specs.WriteLaws.{length-in, written-in}
 use Rattle.estimate.specs.Number.{exact, never}
 use Rattle.taskfile.specs.TaskFile.{costTask, runTask}
-use Rattle.taskfile.specs.Examples.{P, P-bytes, P-read, xy²+z+2-bytes, answering, list-0, empty-list, costs-6, costs-3}
+use Rattle.taskfile.specs.Examples.{P-bytes, P-read, xy²+z+2-bytes, answering, list-0, empty-list, costs-6, costs-3}
 use Rattle.relaxation.specs.RelaxedTask.{relaxedTask}
 use Rattle.relaxation.specs.EstimateTask.{estimateTask}
 use Rattle.relaxation.specs.FileExamples.{A-and-B, set-A, set-B, relaxed-2, relaxed-3, estimate-1, estimate-2, estimate-never}
-use Rattle.probefile.specs.ProbeFile.{writeProbe, runProbe}
+use Rattle.probefile.specs.ProbeFile.{runProbe}
 use Rattle.probefile.specs.Examples.{P-file, list-0-1-3, list-0-1, list-0-2-3}
 use Rattle.compilation.specs.CompileFile.{compileFile, compiledBuffer}
+use Rattle.compilation.specs.CompileFileLaws.{file-of}
 use Rattle.compilation.specs.Examples.{P-written}
 use Rattle.plans.specs.Carry.{expand}
 use Rattle.carry.specs.CarryFile.{expanded}
@@ -68,13 +69,12 @@ pub record Marked : Type 0 where
 -- ---- P's file
 
 P-room : compileFile P-bytes 106 ≡ accepted 106
-unfolding compileFile
-P-room = rw (P-read, P-written)
+P-room = let h = rw P-written at (file-of P-bytes P-read) in length-in h (omega arith)
 
 -- a buffer that has just the room is filled
 P-filled : (out : List ℕ) → length out ≡ 106 → compiledBuffer P-bytes out ≡ P-file
-unfolding compiledBuffer over
-P-filled out e = rw (P-read, compiledBuffer, P-written, fitting-all P-file out (omega (arith, e)), drop-of-length-le out {i = 106} (omega (arith, e)))
+unfolding over
+P-filled out e = let h = rw P-written at (file-of P-bytes P-read) in rw (written-in h out (omega (arith, e)), drop-of-length-le out {i = 106} (omega (arith, e)))
 
 P-expanded : expanded P-bytes (0 ∷ []) ≡ accepted (0 ∷ 1 ∷ 3 ∷ [], 8)
 unfolding answering expanded expand

@@ -1,5 +1,5 @@
 -- Rows 4 and 7 to 12 of document 01's table, for the operations that give them: conditions, and the law of each row.
-use mathlib.Core.Path.{_≡_, refl, sym, _∙_}
+use mathlib.Core.Path.{_≡_, refl, sym, ap, subst, _∙_}
 use mathlib.Core.Logic.{_↔_, _⊎_, inl, inr}
 use Prim.Native.Nat.{ℕ, _≤_, _<_}
 use mathlib.Core.Bool.{Bool, true, false}
@@ -7,8 +7,9 @@ use mathlib.Core.List.{List}
 use lib.Dec.{leb}
 use lib.ListN.{length}
 use borrow.Author.Tests.{leb-true, leb-false, lt-leb}
-use Rattle.facts.specs.Read.{Read, accepted, refused, check, _>>=_}
-use Rattle.facts.specs.ReadLaws.{through, checked, bind-assoc}
+use Rattle.facts.specs.Read.{Read, accepted, refused, check, withValue, _>>=_}
+use Rattle.facts.specs.ReadLaws.{through, checked, made, not-made, bind-assoc}
+use Rattle.facts.specs.Write.{lengthIn}
 use Rattle.facts.specs.Lists.{At}
 use Rattle.facts.specs.ListLaws.{look}
 use Rattle.facts.specs.Partial.{Partial, holds}
@@ -20,9 +21,10 @@ use Rattle.probefile.specs.Probe.{Step, Probe, stepMove, probeSum, ProbePlan}
 use Rattle.probefile.specs.ProbeLaws.{probe-plan}
 use Rattle.probefile.specs.ProbeFile.{readProbe, writeProbe, runProbe}
 use Rattle.compilation.specs.Compile.{probeOf}
-use Rattle.compilation.specs.CompileFile.{compileFile}
+use Rattle.compilation.specs.CompileFile.{probeFileOf, compileFile}
 use Rattle.plans.specs.Carry.{expand, contract}
-use Rattle.carry.specs.CarryFile.{expanded, startsAtMost, contracted, answerIn}
+use Rattle.carry.specs.CarryFile.{expanded, startsAtMost, contracted, listOf, answerIn}
+use Rattle.carry.specs.SameSumLaws.{answer-length}
 use Rattle.cases.specs.SiteLaws.{first, after, stops, stopped, passed, failed, unmade}
 use Rattle.cases.specs.StartRows.{Over, starts-row}
 use Rattle.cases.specs.ListRows.{System, ListFault, listSum, list-row}
@@ -63,27 +65,45 @@ after-file never same row = let both = either same row in (λ h. elim (both .0 h
 pub file-alone : {X Y : Type 0} {m : Read Y} {file : Read X} {due : X → Type 0} {n p : ℕ} → ((x : X) → due x → ⊥) → (m ≡ refused n p) ↔ Given file due n p → (m ≡ refused n p) ↔ (file ≡ refused n p)
 file-alone never row = (λ h. elim (row .0 h) [ of-file e ↦ e | of-rest x a d ↦ absurd (never x d) ], λ e. row .1 (of-file e))
 
+-- what is refused of something made of a value is refused of the value
+pub of-value : {X Y Z : Type 0} (g : X → Y) (file : Read X) {m : Read Z} {due : Y → Type 0} {n p : ℕ} → (m ≡ refused n p) ↔ Given (withValue g file) due n p
+    → (m ≡ refused n p) ↔ Given file (λ x. due (g x)) n p
+of-value g file {due = due} row = (
+  λ h. elim (row .0 h) [
+    | of-file e ↦ of-file (not-made g file e)
+    | of-rest y a d ↦ let v = made g file a in of-rest (v .from) (v .answer) (subst due (sym (v .value)) d)
+  ],
+  λ c. elim c [ of-file e ↦ row .1 (of-file (rw e)) | of-rest x a d ↦ row .1 (of-rest (g x) (rw a) d) ],
+)
+
 -- ---- a buffer that is too short
 
 -- 7: there is room for fewer than the length needed, which is the place.
 abbrev pub Short : ℕ → ℕ → ℕ → ℕ → Type 0
 Short room needed n p = (n ≡ 7) × (room < needed) × (p ≡ needed)
 
-short : (room needed n p : ℕ) {X : Type 0} (x : X) → (_>>=_ (check (leb needed room) 7 needed) (λ u. accepted x) ≡ refused n p) ↔ Short room needed n p
-short room needed n p x = (
-  λ h.
-      let q = failed (leb needed room) 7 needed (unmade (check (leb needed room) 7 needed) _ h) in
-      (q .1, leb-false needed room (q .0), q .2),
-  λ c. rw (lt-leb needed room (c .1), c .0, c .2),
-)
+-- with a buffer: what is refused without one, and then 7
+pub length-room : (room : ℕ) (result : Read (List ℕ)) (n p : ℕ) → (lengthIn room result ≡ refused n p) ↔ Given result (λ list. Short room (length list) n p) n p
+unfolding lengthIn
+length-room room result n p = given result _ _ n p (λ list. short (length list))
+  where
+    short : (needed : ℕ) → (_>>=_ (check (leb needed room) 7 needed) (λ u. accepted needed) ≡ refused n p) ↔ Short room needed n p
+    short needed = (
+      λ h.
+          let q = failed (leb needed room) 7 needed (unmade (check (leb needed room) 7 needed) _ h) in
+          (q .1, leb-false needed room (q .0), q .2),
+      λ c. rw (lt-leb needed room (c .1), c .0, c .2),
+    )
 
 pub compile-room : (f : List ℕ) (room n p : ℕ) → (compileFile f room ≡ refused n p) ↔ Given (readTask f) (λ t. Short room (length (writeProbe (probeOf t))) n p) n p
-unfolding compileFile
-compile-room f room n p = given (readTask f) _ _ n p (λ t. let needed = length (writeProbe (probeOf t)) in short room needed n p needed)
+unfolding probeFileOf
+compile-room f room n p = of-value (λ (t : Task). writeProbe (probeOf t)) (readTask f) (length-room room (probeFileOf f) n p)
 
 pub answer-room : (room : ℕ) (carried : Read (List ℕ × ℕ)) (n p : ℕ) → (answerIn room carried ≡ refused n p) ↔ Given carried (λ c. Short room (length (c .0)) n p) n p
-unfolding answerIn
-answer-room room carried n p = given carried _ _ n p (λ c. short room (length (c .0)) n p (length (c .0), c .1))
+answer-room room carried n p =
+    let alone : Read (ℕ × ℕ) → Read ℕ = withValue (λ (c : ℕ × ℕ). c .0) in
+    let row = of-value (λ (c : List ℕ × ℕ). c .0) carried (length-room room (listOf carried) n p) in
+    (λ h. row .0 (sym (answer-length room carried) ∙ ap alone h), λ g. not-made (λ (c : ℕ × ℕ). c .0) (answerIn room carried) (answer-length room carried ∙ row .1 g))
 
 -- ---- lists
 

@@ -8,7 +8,7 @@ use mathlib.Core.Bool.{Bool, true, false, _&&_}
 use mathlib.Core.List.{List, [], _∷_}
 use lib.Dec.{leb, ltb}
 use lib.ListN.{length, getD, take, length-take}
-use Rattle.facts.specs.Read.{Read, accepted, refused, check, _>>=_}
+use Rattle.facts.specs.Read.{Read, accepted, refused, check, withValue, _>>=_}
 use Rattle.facts.specs.ReadLaws.{through, carried}
 use Rattle.facts.specs.Lists.{upFrom, total}
 use Rattle.facts.specs.Bytes.{numberAt}
@@ -40,6 +40,12 @@ pub then-within : {X Y : Type 0} {good : X → Type 0} {fine : Y → Type 0} {mo
     → Within fine most (_>>=_ m k)
 then-within k (value {x = x} g) on = on x refl g
 then-within k (place l) on = place l
+
+-- what is made of the value
+pub made-within : {X Y : Type 0} {good : X → Type 0} {fine : Y → Type 0} {most : ℕ} {m : Read X} (g : X → Y) → Within good most m → ((x : X) → m ≡ accepted x → good x → fine (g x))
+    → Within fine most (withValue g m)
+made-within g (value {x = x} h) on = value (on x refl h)
+made-within g (place l) on = place l
 
 -- by the places of its refusals
 pub placed-by : {X : Type 0} {most : ℕ} (m : Read X) → ((n p : ℕ) → m ≡ refused n p → p ≤ most) → Placed most m

@@ -10,6 +10,7 @@ use lib.Dec.{leb, ltb, eqb}
 use lib.ListN.{length, getElem?}
 use Rattle.facts.specs.Read.{Read, accepted, refused, withValue, _>>=_}
 use Rattle.facts.specs.ReadLaws.{through, bind-assoc}
+use Rattle.facts.specs.Write.{lengthIn}
 use Rattle.facts.specs.Lists.{All, nil, cons, At}
 use Rattle.facts.specs.ListLaws.{found, all-at, at-length}
 use Rattle.facts.specs.Bytes.{Bytes}
@@ -39,7 +40,7 @@ use Rattle.relaxation.specs.RelaxedTaskLaws.{relaxed-inside}
 use Rattle.relaxation.specs.Estimate.{leastCost, actionAchiever, estimate}
 use Rattle.relaxation.specs.EstimateTask.{estimateTask}
 use Rattle.compilation.specs.Compile.{probeOf}
-use Rattle.compilation.specs.CompileFile.{compileFile}
+use Rattle.compilation.specs.CompileFile.{probeFileOf, compileFile}
 use Rattle.compilation.specs.CompiledLaws.{task-accepted, compiled-wf}
 use Rattle.compilation.specs.CompiledLengthLaws.{compiled-length}
 use Rattle.compilation.specs.StepLaws.{at-all, all-append, all-map}
@@ -49,7 +50,7 @@ use Rattle.carry.specs.CarryFile.{expanded, startsAtMost, contracted, answerIn}
 use Rattle.carry.specs.SameSumLaws.{fits-inv}
 use Rattle.carry.specs.StartLaws.{starts-kept}
 use Rattle.cases.specs.StartRows.{starts-row}
-use Rattle.cases.specs.PlaceLaws.{Within, value, place, Placed, then-within, placed-by, more-within, check-placed, task-places, probe-places}
+use Rattle.cases.specs.PlaceLaws.{Within, value, place, Placed, then-within, made-within, placed-by, more-within, check-placed, task-places, probe-places}
 
 -- ---- files
 
@@ -223,12 +224,14 @@ run-probe-range f bytes list = then-within _ (probe-places f) (λ y h g. more-wi
 
 -- ---- what is written
 
+-- a list that is at most so long has at most that length, and needs no more
+length-range : {long most : ℕ} (room : ℕ) {result : Read (List ℕ)} → long ≤ most → Within (λ list. length list ≤ long) most result → Within (λ n. n ≤ long) most (lengthIn room result)
+unfolding lengthIn
+length-range {long} {most} room l w = then-within _ w (λ list h g. then-within _ (check-placed (leb (length list) room) 7 (length list) most (omega arith)) (λ u e z. value g))
+
 pub compile-range : (f : List ℕ) (room : ℕ) → Within (λ n. n ≤ maxWritten) maxWritten (compileFile f room)
-unfolding compileFile
-compile-range f room =
-    then-within _ (more-within (task-places f) (omega arith)) (λ t h g.
-    let needed = length (writeProbe (probeOf t)) in
-    then-within _ (check-placed (leb needed room) 7 needed maxWritten (compiled-length f h)) (λ u e g. value (compiled-length f h)))
+unfolding probeFileOf
+compile-range f room = length-range room (omega arith) (made-within (λ (t : Task). writeProbe (probeOf t)) (more-within (task-places f) (omega arith)) (λ t h g. compiled-length f h))
 
 -- a list that is at most so long, and its sum
 abbrev pub Carried : ℕ → ℕ → List ℕ × ℕ → Type 0
@@ -262,7 +265,7 @@ Written long dear c = (c .0 ≤ long) × (c .1 ≤ dear)
 
 answer-range : {long dear most : ℕ} (room : ℕ) {carried : Read (List ℕ × ℕ)} → long ≤ most → Within (Carried long dear) most carried → Within (Written long dear) most (answerIn room carried)
 unfolding answerIn
-answer-range {long} {dear} {most} room l w = then-within _ w (λ c h g. then-within _ (check-placed (leb (length (c .0)) room) 7 (length (c .0)) most (omega (arith, g .0))) (λ u e z. value g))
+answer-range room l w = then-within _ w (λ c h g. made-within (λ (n : ℕ). (n, c .1)) (length-range room l (value (g .0))) (λ n e k. (k, g .1)))
 
 pub expand-range : (f : List ℕ) → Bytes f → (list : List ℕ) (room : ℕ) → Within (Written maxProbeList mostOfTask) maxProbeList (answerIn room (expanded f list))
 expand-range f bytes list room = answer-range room (omega arith) (expanded-range f bytes list)

@@ -11,4 +11,5 @@ pub mod AskLaws
 pub mod StepLaws
 pub mod CompiledLaws
 pub mod CompiledLengthLaws
+pub mod CompileFileLaws
 pub mod ProgramLaws

@@ -4,19 +4,15 @@ use Prim.Native.Nat.{ℕ, suc, _+_, _*_, _-_, _%_, _≤_, _<_}
 use native.Mathlib.Omega.{arith}
 use mathlib.Core.List.{List, [], _∷_, _++_, map, append-assoc}
 use lib.ListN.{length, getD, take, drop, length-append, length-replicate}
-use borrow.Author.Tests.{le-leb, lt-leb}
 use borrow.Rule.Slice.PartMut.{putMid}
-use Rattle.facts.specs.Read.{accepted, refused}
-use Rattle.facts.specs.ReadLaws.{not-made}
 use Rattle.facts.specs.Lists.{total, At, here, there}
 use Rattle.facts.specs.Bytes.{bytesOf}
 use Rattle.facts.specs.Partial.{partialAt, partialBytes}
 use Rattle.facts.specs.PartialLaws.{inside-length}
-use Rattle.facts.specs.Write.{over, Wrote}
-use Rattle.facts.specs.WriteLaws.{fitting-all, fitting-none, wrote-inside, wrote-room, wrote-then}
+use Rattle.facts.specs.Write.{Wrote}
+use Rattle.facts.specs.WriteLaws.{wrote-inside, wrote-room, wrote-then}
 use Rattle.facts.specs.Fields.{writeEach, writeHead}
 use Rattle.taskfile.specs.Task.{Action, Task}
-use Rattle.taskfile.specs.TaskFile.{readTask, checkTask}
 use Rattle.taskfile.specs.Index.{Ready}
 use Rattle.taskfile.specs.WalkInPlace.{nodeCount}
 use Rattle.taskfile.specs.WalkInPlaceLaws.{count-is}
@@ -30,7 +26,6 @@ use Rattle.compilation.specs.CompiledLengthLaws.{stepBytes, probe-written, clea
 use Rattle.probe_writer.specs.HeadInPlace.{markersIn, headIn}
 use Rattle.taskfile.specs.PartsInPlace.{actionsIn}
 use Rattle.taskfile.specs.PartsInPlaceLaws.{actions-in-place}
-use Rattle.compilation.specs.CompileFile.{compileFile, compiledBuffer}
 
 -- ---- the file of a task's probe
 
@@ -142,24 +137,3 @@ module _ (f : List ℕ) {n k : ℕ} {row : List ℕ} (ready : Ready f n k row) w
       pub file-wrote : {last : List ℕ} {n : ℕ} → Wrote (writeEach writeStep (steps sizes)) (take (length now - at) (drop at now)) last n
           → Wrote (writeProbe (probeOf t)) before (putMid at (length now - at) now last) (at + n)
       file-wrote {last} {n} v = subst (λ (bytes : List ℕ). Wrote bytes before (putMid at (length now - at) now last) (at + n)) file-in-place (wrote-then w v)
-
--- ---- the operation
-
-module _ (f : List ℕ) where
-  -- A refused file writes nothing.
-  pub compile-refused : (out : List ℕ) {n p : ℕ} → checkTask f ≡ refused n p → (compileFile f (length out) ≡ refused n p) × (compiledBuffer f out ≡ out)
-  unfolding checkTask compileFile compiledBuffer
-  compile-refused out h = let r = not-made (λ (t : Task). tt) (readTask f) h in (rw r, rw (r, compiledBuffer))
-
-  module _ {t : Task} (r : readTask f ≡ accepted t) where
-    -- Nor does a buffer that is too short.
-    pub compile-short : (out : List ℕ) {needed : ℕ} → needed ≡ length (writeProbe (probeOf t)) → length out < needed → (compileFile f (length out) ≡ refused 7 needed) × (compiledBuffer f out ≡ out)
-    unfolding compileFile compiledBuffer over
-    compile-short out e h = let l : length out < length (writeProbe (probeOf t)) = omega arith in
-        (rw (r, lt-leb (length (writeProbe (probeOf t))) (length out) l, e), rw (r, compiledBuffer, fitting-none (writeProbe (probeOf t)) out l))
-
-    -- Else the file is written, and its length is the answer.
-    pub compile-wrote : {out now : List ℕ} {n : ℕ} → length (writeProbe (probeOf t)) ≤ length out → Wrote (writeProbe (probeOf t)) out now n → (compileFile f (length out) ≡ accepted n) × (compiledBuffer f out ≡ now)
-    unfolding compileFile compiledBuffer
-    compile-wrote {out} h w =
-        (rw (r, le-leb (length (writeProbe (probeOf t))) (length out) h, w .count), rw (r, compiledBuffer, fitting-all (writeProbe (probeOf t)) out h, w .buffer))

@@ -21,14 +21,14 @@ use Rattle.probefile.specs.Probe.{maxList as maxProbeList}
 use Rattle.probefile.specs.ProbeFile.{readProbe, writeProbe, runProbe}
 use Rattle.compilation.specs.Compile.{probeOf}
 use Rattle.compilation.specs.CompiledLaws.{compiled-reads}
-use Rattle.compilation.specs.CompileFile.{compileFile, compiledBuffer}
+use Rattle.compilation.specs.CompileFile.{probeFileOf, compileFile, compiledBuffer}
+use Rattle.compilation.specs.CompileFileLaws.{compiled-from}
 use Rattle.compilation.specs.ProgramLaws.{always-room}
 use Rattle.plans.specs.Carry.{startedBy, contractOf, contract}
 use Rattle.plans.specs.Contract.{contract-start, contract-other}
 use Rattle.facts.specs.WriteRowLaws.{Cut}
 use Rattle.carry.specs.CarryFile.{startsAtMost, contracted}
 use Rattle.carry.specs.StartLaws.{starts-other, starts-one, starts-over}
-use Rattle.carry.specs.SameSumLaws.{compiled-from}
 use Rattle.numbering.specs.InPlace.{Noted, NotedIn, contractIn, countIn, ProbePlanOf}
 use Rattle.numbering.specs.NoteLaws.{noted-most}
 
@@ -145,8 +145,8 @@ contract-no-file f list h = rw (not-made (λ (t : Task). tt) (readTask f) h)
 
 -- A refused task file.
 pub contract-refused : (f list : List ℕ) {n p : ℕ} → compileFile f maxWritten ≡ refused n p → contracted f list ≡ refused n p
-unfolding contracted
-contract-refused f list h = rw (not-made (λ (t : Task). length (writeProbe (probeOf t))) (readTask f) (sym (always-room f) ∙ h))
+unfolding contracted probeFileOf
+contract-refused f list h = rw (not-made (λ (t : Task). writeProbe (probeOf t)) (readTask f) (not-made length (probeFileOf f) (sym (always-room f) ∙ h)))
 
 -- the file `written` has the probe of the task of f
 pub record WrittenFrom (f written : List ℕ) : Type 0 where

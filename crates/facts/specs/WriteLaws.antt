@@ -1,13 +1,16 @@
 -- Laws of what is written at the front of a buffer, and straight after that.
-use mathlib.Core.Path.{_≡_, refl, sym, ap, _∙_}
+use mathlib.Core.Path.{_≡_, refl, sym, ap, ap₂, _∙_}
+use mathlib.Core.Bool.{Bool, true, false}
 use mathlib.Core.List.{List, [], _++_, append-nil, append-assoc}
 use Prim.Native.Nat.{ℕ, _+_, _-_, _≤_, _<_}
 use native.Mathlib.Omega.{arith}
+use lib.Dec.{leb}
 use lib.ListN.{length, take, drop, length-append, length-drop, drop-of-length-le}
 use lib.Seq.{take-all, take-at, drop-at, drop-drop, take-length, drop-length}
-use borrow.Author.Tests.{le-leb, lt-leb}
+use borrow.Author.Tests.{le-leb, lt-leb, leb-true, leb-false}
 use borrow.Rule.Slice.PartMut.{putMid}
-use Rattle.facts.specs.Read.{Read, accepted, refused, _>>=_}
+use Rattle.facts.specs.Read.{Read, accepted, refused, check, withValue, _>>=_}
+use Rattle.facts.specs.ReadLaws.{not-refused, through, checked}
 use Rattle.facts.specs.Write.{over, fitting, lengthIn, writtenIn, Wrote}
 
 pub fitting-all : (bytes out : List ℕ) → length bytes ≤ length out → fitting bytes out ≡ bytes
@@ -63,6 +66,11 @@ module _ {bytes before now : List ℕ} {at : ℕ} (w : Wrote bytes before now at
   pub wrote-then : {more last : List ℕ} {n : ℕ} → Wrote more (take (length now - at) (drop at now)) last n → Wrote (bytes ++ more) before (putMid at (length now - at) now last) (at + n)
   wrote-then {more} v = record { count = rw (w .count, v .count, length-append bytes more); buffer = over-then more (v .buffer) }
 
+-- What was written at the front of a buffer stands there.
+pub over-front : (list out : List ℕ) → take (length list) (over list out) ≡ list
+unfolding over
+over-front list out = take-at list (drop (length list) out) (length list) refl
+
 -- ---- the answer and the buffer of an operation
 
 module _ {result : Read (List ℕ)} where
@@ -77,7 +85,54 @@ module _ {result : Read (List ℕ)} where
     unfolding lengthIn writtenIn over
     short-in out e l = let m : length out < length list = omega arith in (rw (h, lt-leb (length list) (length out) m, e), rw (h, writtenIn, fitting-none list out m))
 
-    -- else the result is written, and its length is the answer
+    -- else the result's length is the answer, and the result is written
+    pub length-in : {room : ℕ} → length list ≤ room → lengthIn room result ≡ accepted (length list)
+    unfolding lengthIn
+    length-in {room} l = rw (h, le-leb (length list) room l)
+
+    pub written-in : (out : List ℕ) → length list ≤ length out → writtenIn out result ≡ over list out
+    unfolding writtenIn
+    written-in out l = rw (h, writtenIn, fitting-all list out l)
+
     pub wrote-in : {out now : List ℕ} {n : ℕ} → length list ≤ length out → Wrote list out now n → (accepted n ≡ lengthIn (length out) result) × (now ≡ writtenIn out result)
-    unfolding lengthIn writtenIn
-    wrote-in {out} l w = (rw (h, le-leb (length list) (length out) l, w .count), rw (h, writtenIn, fitting-all list out l, w .buffer))
+    wrote-in {out} l w = (ap accepted (w .count) ∙ sym (length-in l), w .buffer ∙ sym (written-in out l))
+
+-- the result is a list that is so long, and there is room for it
+pub record Fits (result : Read (List ℕ)) (room n : ℕ) : Type 0 where
+  pub list : List ℕ
+  pub is : result ≡ accepted list
+  pub count : length list ≡ n
+  pub fits : n ≤ room
+
+module _ (result : Read (List ℕ)) where
+  -- Where a length is answered, the result has that length, and fits.
+  pub length-inv : (room : ℕ) {n : ℕ} → lengthIn room result ≡ accepted n → Fits result room n
+  unfolding lengthIn
+  length-inv room {n} h =
+      let a = through result h in
+      let list = a .got in
+      let b = through (check (leb (length list) room) 7 (length list)) (a .then) in
+      let same : length list ≡ n = cc (b .then) in
+      record { list = list; is = a .first; count = same; fits = rw same at (leb-true (length list) room (checked (leb (length list) room) 7 (length list) (b .first))) }
+
+  -- So many entries at the front of the buffer are the result.
+  pub written-inv : (out : List ℕ) {n : ℕ} → lengthIn (length out) result ≡ accepted n → result ≡ accepted (take n (writtenIn out result))
+  written-inv out h =
+      let a = length-inv (length out) h in
+      a .is ∙ ap accepted (sym (over-front (a .list) out)) ∙ ap accepted (ap₂ take (a .count) (sym (written-in (a .is) out (omega (arith, a .count, a .fits)))))
+
+-- With room for whatever may be accepted there is no refusal but the result's own.
+pub all-fit : (result : Read (List ℕ)) (room : ℕ) → ((list : List ℕ) → result ≡ accepted list → length list ≤ room) → lengthIn room result ≡ withValue length result
+unfolding lengthIn
+all-fit (accepted list) room h = rw (le-leb (length list) room (h list refl))
+all-fit (refused n p) room h = refl
+
+-- Where anything is refused, nothing is written.
+pub unwritten : (result : Read (List ℕ)) (out : List ℕ) {n p : ℕ} → lengthIn (length out) result ≡ refused n p → writtenIn out result ≡ out
+unfolding lengthIn writtenIn over
+unwritten (refused k q) out h = refl
+unwritten (accepted list) out {n} {p} h = go (leb (length list) (length out)) refl h
+  where
+    go : (b : Bool) → leb (length list) (length out) ≡ b → _>>=_ (check b 7 (length list)) (λ u. accepted (length list)) ≡ refused n p → over (fitting list out) out ≡ out
+    go true e h = absurd (not-refused (sym h))
+    go false e h = rw (fitting-none list out (leb-false _ _ e))

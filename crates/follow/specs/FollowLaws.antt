@@ -14,6 +14,7 @@ use Rattle.facts.specs.Lists.{total}
 use Rattle.facts.specs.ListLaws.{look, at-length}
 use Rattle.facts.specs.Read.{accepted}
 use Rattle.facts.specs.Write.{Wrote, over}
+use Rattle.facts.specs.WriteLaws.{over-front}
 use Rattle.facts.specs.Partial.{Partial, holds, apply, partialAt}
 use Rattle.facts.specs.PartialLaws.{apply-inside, length-apply}
 use Rattle.facts.specs.State.{Inside}
@@ -33,7 +34,7 @@ use Rattle.plans.specs.Carry.{pathSteps, firstStep, actionList, expandFrom, exp
 use Rattle.plans.specs.ListLaws.{total-take}
 use Rattle.carry.specs.CarryFile.{contracted}
 use Rattle.numbering.specs.InPlace.{entriesOf, Numbered, Noted, NotedIn}
-use Rattle.carry.specs.SameSumLaws.{over-front, contracted-plan}
+use Rattle.carry.specs.SameSumLaws.{contracted-plan}
 use Rattle.carry.specs.AnswerLaws.{wrote-entry}
 use Rattle.numbering.specs.NumberLaws.{actions-at, total-next, actions-are, steps-few, all-tested, actions-wf}
 use Rattle.numbering.specs.ActionLaws.{Visited, path-entry, path-last}

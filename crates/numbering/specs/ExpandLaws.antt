@@ -16,6 +16,7 @@ use Rattle.facts.specs.Partial.{Partial, holds, apply, partialAt, pastPartial}
 use Rattle.facts.specs.PartialLaws.{apply-inside}
 use Rattle.facts.specs.State.{Inside}
 use Rattle.facts.specs.Write.{over, Wrote}
+use Rattle.facts.specs.WriteLaws.{over-front}
 use Rattle.facts.specs.Run.{next as went, attempt, atMost}
 use Rattle.facts.specs.RunLaws.{attempt-next, attempt-blocked, not-blocked, list-long}
 use Rattle.taskfile.specs.Task.{Action, Task, Walk, maxList, taskSum, Plan, WfAction, maxEntries}
@@ -40,7 +41,7 @@ use Rattle.numbering.specs.NumberLaws.{actions-at, total-next, actions-a
 use Rattle.carry.specs.AnswerLaws.{entry-room, entry-more}
 use Rattle.carry.specs.declared.Carried.{Carried}
 use Rattle.carry.specs.declared.Carried.the-variants.{List as Listed, Refused as NotCarried}
-use Rattle.carry.specs.SameSumLaws.{over-front, expanded-plan, fits-inv}
+use Rattle.carry.specs.SameSumLaws.{expanded-plan, fits-inv}
 use Rattle.probefile.specs.Probe.{maxSteps}
 
 -- The state after what applied.

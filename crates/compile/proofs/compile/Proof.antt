@@ -1,9 +1,10 @@
 -- `compile::compile` meets its contract: the file, and then the buffer. Assumes nothing.
 use mathlib.Core.Path.{sym, ap, _∙_}
 use denote.Ref.{now}
+use Rattle.facts.specs.WriteLaws.{refused-in}
 use Rattle.taskfile.specs.Answers.{countedAnswer}
 use Rattle.taskfile.specs.TaskIndexLaws.{index-ready, index-refused}
-use Rattle.compile.specs.TaskInPlaceLaws.{compile-refused}
+use Rattle.compilation.specs.CompileFileLaws.{no-file}
 use borrow.Author.Needs.{needs}
 use native.Mathlib.Omega.{arith}
 use Rattle.compile.proofs.compile.Statement.{statement}
@@ -17,8 +18,7 @@ compile-in-requires c κs =
 returns : tie.Need-returns
 returns c =
     let s = c .before .before .before .before .before .before .before .before in
-    let r = compile-refused (now (s .args .file)) (now (s .args .out)) (index-refused _ (sym (c .before .before .before .before .index-in .ensures .0) ∙ ap countedAnswer (c .before .why .given .1))) in
-    (sym (r .0), sym (r .1))
+    refused-in (now (s .args .out)) (no-file (now (s .args .file)) (index-refused _ (sym (c .before .before .before .before .index-in .ensures .0) ∙ ap countedAnswer (c .before .why .given .1))))
 
 pub compile-spec : {M : Type 1} → statement M
 compile-spec =

@@ -1,11 +1,12 @@
 -- `compile::compile_in` meets its contract: head and steps, as they are written from the index, are the file of the task's probe. Assumes nothing.
 use Prim.Native.Nat.{ℕ, _+_, _-_, _≤_, _<_}
-use mathlib.Core.Path.{_≡_, sym, ap, _∙_}
+use mathlib.Core.Path.{_≡_, ap, _∙_}
 use mathlib.Core.List.{List}
 use denote.Ref.{now}
 use lib.ListN.{length, getD, take, drop}
 use borrow.Rule.Slice.PartMut.{putMid}
 use Rattle.facts.specs.Write.{Wrote}
+use Rattle.facts.specs.WriteLaws.{short-in, wrote-in}
 use Rattle.taskfile.specs.Task.{maxVariables, maxActions}
 use Rattle.taskfile.specs.Row.{ownFrom}
 use Rattle.taskfile.specs.InPlace.{Fronts}
@@ -16,9 +17,10 @@ use Rattle.probefile.specs.ProbeFile.{writeProbe}
 use Rattle.compilation.specs.Compile.{probeOf}
 use Rattle.compilation.specs.StepLaws.{steps-most}
 use Rattle.compilation.specs.CompiledLengthLaws.{compiled-length}
+use Rattle.compilation.specs.CompileFileLaws.{file-of}
 use Rattle.probe_writer.specs.ExtentLaws.{weighs}
 use Rattle.taskfile.specs.PartsInPlaceLaws.{actions-stood, goal-stands}
-use Rattle.compile.specs.TaskInPlaceLaws.{steps-in-place, file-length, front-room, front-inside, steps-room, file-wrote, compile-short, compile-wrote}
+use Rattle.compile.specs.TaskInPlaceLaws.{steps-in-place, file-length, front-room, front-inside, steps-room, file-wrote}
 use borrow.Author.Needs.{needs}
 use native.Mathlib.Omega.{arith}
 use Rattle.compile.proofs.compile_in.Statement.{statement}
@@ -62,8 +64,7 @@ add-needed c = let s = c .before .before .before .before .before .before .before
 returns : tie.Need-returns
 returns c =
     let s = c .before .before .before .before .before .before .before .before in
-    let r = compile-short (now (s .args .file)) (task s .reads) (now (s .args .out)) (needed-is (c .before .before)) (c .if1 .taken) in
-    (sym (r .0), sym (r .1))
+    short-in (file-of (now (s .args .file)) (task s .reads)) (now (s .args .out)) (needed-is (c .before .before)) (c .if1 .taken)
 
 -- there is room for it
 room : (c : tie.Else1) → let s = c .before .before .before .before .before .before .before .before in length (probe s) ≤ length (now (s .args .out))
@@ -96,8 +97,7 @@ wrote c = let s = c .before .before .before .before .before .before .before .bef
 returns-2 : tie.Need-returns-2
 returns-2 c =
     let s = c .before .before .before .before .before .before .before .before .before .before .before .before .before .before .before .before in
-    let r = compile-wrote (now (s .args .file)) (task s .reads) (room (c .before .before .before .before .before .before .before .before)) (wrote (c .before .before)) in
-    (sym (r .0), sym (r .1))
+    wrote-in (file-of (now (s .args .file)) (task s .reads)) (room (c .before .before .before .before .before .before .before .before)) (wrote (c .before .before))
 
 pub compile-in-spec : {M : Type 1} → statement M
 compile-in-spec =

@@ -27,7 +27,7 @@ long : (c : tie.After-count) → length (take (c .count .given .0 .0) (noted c))
 long c = length-take-le (c .count .given .0 .0) (noted c) (carried c .0)
 
 returns : tie.Need-returns
-returns c = let r = short-in (carried (c .before .before) .1) (now (c .before .before .before .before .before .before .before .before .before .before .before .args .out)) (sym (long (c .before .before))) (c .if1 .taken) in (sym (r .0), sym (r .1))
+returns c = short-in (carried (c .before .before) .1) (now (c .before .before .before .before .before .before .before .before .before .before .before .args .out)) (sym (long (c .before .before))) (c .if1 .taken)
 
 -- there is room for them
 room : (c : tie.Else1) → length (take (c .before .before .count .given .0 .0) (noted (c .before .before))) ≤ length (now (c .before .before .before .before .before .before .before .before .before .before .before .args .out))
@@ -36,8 +36,7 @@ room c = omega (arith, long (c .before .before), c .if1 .left)
 returns-3 : tie.Need-returns-3
 returns-3 c =
     let w : Wrote (take (c .before .before .before .before .before .before .before .count .given .0 .0) (noted (c .before .before .before .before .before .before .before))) (now (c .before .before .before .before .before .before .before .before .before .before .before .before .before .before .before .before .args .out)) (c .before .before .put-entries .last .1 .0) (c .before .before .before .before .before .before .before .count .given .0 .0) = record { count = sym (long (c .before .before .before .before .before .before .before)); buffer = c .before .before .put-entries .ensures .buffer } in
-    let r = wrote-in (carried (c .before .before .before .before .before .before .before) .1) (room (c .before .before .before .before .before)) w in
-    (sym (r .0), sym (r .1))
+    wrote-in (carried (c .before .before .before .before .before .before .before) .1) (room (c .before .before .before .before .before)) w
 
 pub contract-in-spec : {M : Type 1} → statement M
 contract-in-spec =

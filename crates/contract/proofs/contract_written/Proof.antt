@@ -37,14 +37,12 @@ contract-plan-requires c κs =
 returns : tie.Need-returns
 returns c =
     let s = c .before .before .before .before .before .before .before .before .before .before in
-    let r = refused-in (now (s .args .out)) (contract-refused (now (s .args .file)) (now (s .args .list)) (sym (c .before .before .before .before .compile .ensures .0) ∙ ap compiledAnswer (c .before .why .given .1))) in
-    (sym (r .0), sym (r .1))
+    refused-in (now (s .args .out)) (contract-refused (now (s .args .file)) (now (s .args .list)) (sym (c .before .before .before .before .compile .ensures .0) ∙ ap compiledAnswer (c .before .why .given .1)))
 
 returns-2 : tie.Need-returns-2
 returns-2 c =
     let s = c .before .before .before .before .before .before .before .before .before .before .before .before .before .before .before in
-    let r = refused-in (now (s .args .out)) (contract-blocked (from (c .before .before .before .before .before .before)) (now (s .args .list)) (sym (c .before .before .before .run .ensures) ∙ ap ranAnswer (c .before .why2 .given .1))) in
-    (sym (r .0), sym (r .1))
+    refused-in (now (s .args .out)) (contract-blocked (from (c .before .before .before .before .before .before)) (now (s .args .list)) (sym (c .before .before .before .run .ensures) ∙ ap ranAnswer (c .before .why2 .given .1)))
 
 pub contract-written-spec : {M : Type 1} → statement M
 contract-written-spec =

@@ -19,8 +19,7 @@ returns : tie.Need-returns
 returns c =
     let s = c .before .before .before .before .before .before .before .before .before in
     let refused = expand-no-file (now (s .args .file)) (now (s .args .list)) (index-refused _ (sym (c .before .before .before .before .index-in .ensures .0) ∙ ap countedAnswer (c .before .why .given .1))) in
-    let r = refused-in (now (s .args .out)) refused in
-    (sym (r .0), sym (r .1))
+    refused-in (now (s .args .out)) refused
 
 pub expand-spec : {M : Type 1} → statement M
 expand-spec =

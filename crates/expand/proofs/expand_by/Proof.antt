@@ -37,23 +37,20 @@ returns : tie.Need-returns
 returns c =
     let s = c .before .before .before .before .before .before .before .before .before .before .before .before .before in
     let f = now (s .args .file) in
-    let r = short-in (expand-plan f (reads f (s .pre .0)) (now (s .args .list)) (sym (wrote (c .before .before) .0))) (now (s .args .out)) (wrote (c .before .before) .1 .count) (c .if1 .taken) in
-    (sym (r .0), sym (r .1))
+    short-in (expand-plan f (reads f (s .pre .0)) (now (s .args .list)) (sym (wrote (c .before .before) .0))) (now (s .args .out)) (wrote (c .before .before) .1 .count) (c .if1 .taken)
 
 returns-2 : tie.Need-returns-2
 returns-2 c =
     let s = c .before .before .before .before .before .before .before .before .before .before .before .before in
     let f = now (s .args .file) in
-    let r = refused-in (now (s .args .out)) (expand-no-list f (reads f (s .pre .0)) (now (s .args .list)) (sym (subst (Told (c .before .before .before .before .before)) (c .before .why .given .1) (c .before .before .before .before .before .put-plan .ensures)))) in
-    (sym (r .0), sym (r .1))
+    refused-in (now (s .args .out)) (expand-no-list f (reads f (s .pre .0)) (now (s .args .list)) (sym (subst (Told (c .before .before .before .before .before)) (c .before .why .given .1) (c .before .before .before .before .before .put-plan .ensures))))
 
 returns-3 : tie.Need-returns-3
 returns-3 c =
     let s = c .before .before .before .before .before .before .before .before .before .before .before .before .before .before .before .before .before .before in
     let f = now (s .args .file) in
     let w = wrote (c .before .before .before .before .before .before .before) .1 in
-    let r = wrote-in (expand-plan f (reads f (s .pre .0)) (now (s .args .list)) (sym (wrote (c .before .before .before .before .before .before .before) .0))) (omega (arith, c .before .before .before .before .before .if1 .left, w .count)) (front-copied w (c .before .before .put-entries .ensures)) in
-    (sym (r .0), sym (r .1))
+    wrote-in (expand-plan f (reads f (s .pre .0)) (now (s .args .list)) (sym (wrote (c .before .before .before .before .before .before .before) .0))) (omega (arith, c .before .before .before .before .before .if1 .left, w .count)) (front-copied w (c .before .before .put-entries .ensures))
 
 pub expand-by-spec : {M : Type 1} → statement M
 expand-by-spec =

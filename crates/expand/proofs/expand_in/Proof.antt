@@ -1,5 +1,4 @@
 -- `expand::expand_in` meets its contract: a list that is too long, and else a buffer with room for all that may come. Assumes nothing.
-use mathlib.Core.Path.{sym}
 use native.Mathlib.Omega.{arith}
 use denote.Ref.{now}
 use Rattle.taskfile.specs.PartsInPlaceLaws.{reads}
@@ -13,8 +12,7 @@ returns : tie.Need-returns
 returns c =
     let s = c .before .before .before .before .before in
     let f = now (s .args .file) in
-    let r = refused-in (now (s .args .out)) (expand-long f (reads f (s .pre)) (now (s .args .list)) (c .if1 .taken)) in
-    (sym (r .0), sym (r .1))
+    refused-in (now (s .args .out)) (expand-long f (reads f (s .pre)) (now (s .args .list)) (c .if1 .taken))
 
 pub expand-in-spec : {M : Type 1} → statement M
 expand-in-spec =

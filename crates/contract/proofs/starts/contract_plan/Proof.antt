@@ -25,8 +25,7 @@ returns c =
     let s = c .before .before .before .before .before .before .before .before .before .before .before .before .before in
     let noted = c .before .before .before .before .before .before .before .note-starts .ensures in
     let h = counts (c .before .before) in
-    let r = short-in (contract-carried (s .pre .1) noted h) (now (s .args .out)) (contract-needed (s .pre .1) noted h) (c .if1 .taken) in
-    (sym (r .0), sym (r .1))
+    short-in (contract-carried (s .pre .1) noted h) (now (s .args .out)) (contract-needed (s .pre .1) noted h) (c .if1 .taken)
 
 -- there is room for them
 room : (c : tie.Else1) → length (contractIn (c .before .before .before .before .before .before .before .note-starts .last .1 .1 .1 .1 .0) (now (c .before .before .before .before .before .before .before .before .before .before .before .before .before .args .list))) ≤ length (now (c .before .before .before .before .before .before .before .before .before .before .before .before .before .args .out))
@@ -43,15 +42,13 @@ returns-2 : tie.Need-returns-2
 returns-2 c =
     let s = c .before .before .before .before .before .before .before .before .before .before .before .before in
     let many = sym (c .before .before .before .count-starts .ensures) ∙ ap startsAnswer (c .before .i .given .1) in
-    let r = refused-in (now (s .args .out)) (contract-many (s .pre .1) (c .before .before .before .before .before .before .note-starts .ensures) many) in
-    (sym (r .0), sym (r .1))
+    refused-in (now (s .args .out)) (contract-many (s .pre .1) (c .before .before .before .before .before .before .note-starts .ensures) many)
 
 returns-3 : tie.Need-returns-3
 returns-3 c =
     let s = c .before .before .before .before .before .before .before .before .before .before .before .before .before .before .before .before .before .before in
     let noted = c .before .before .before .before .before .before .before .before .before .before .before .before .note-starts .ensures in
-    let r = wrote-in (contract-carried (s .pre .1) noted (counts (c .before .before .before .before .before .before .before))) (room (c .before .before .before .before .before)) (c .before .before .put-starts .ensures) in
-    (sym (r .0), sym (r .1))
+    wrote-in (contract-carried (s .pre .1) noted (counts (c .before .before .before .before .before .before .before))) (room (c .before .before .before .before .before)) (c .before .before .put-starts .ensures)
 
 pub contract-plan-spec : {M : Type 1} → statement M
 contract-plan-spec =
