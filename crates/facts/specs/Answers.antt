@@ -3,6 +3,10 @@ use Prim.Native.Nat.{ℕ, _≤_}
 use mathlib.Core.Path.{_≡_}
 use mathlib.Core.Bool.{Bool, true, false}
 use mathlib.Core.List.{List}
+use mathlib.Core.Option.{Option, none, some}
+use Rattle.facts.specs.declared.Refusal.{Refusal}
+use Rattle.facts.specs.declared.Numbered.{Numbered}
+use Rattle.facts.specs.declared.Numbered.the-variants.{Is, Not as NoRefusal}
 use Rattle.facts.specs.declared.Field.{Field}
 use Rattle.facts.specs.declared.Field.the-variants.{Value, Refused as NoValue}
 use Rattle.facts.specs.declared.Past.{Past}
@@ -21,6 +25,11 @@ use Rattle.facts.specs.Refusal.{number, place}
 use Rattle.facts.specs.Read.{Read, accepted, refused}
 use Rattle.facts.specs.Partial.{Alike}
 use Rattle.facts.specs.Run.{Move, next, blocked}
+
+-- the refusal that has a number
+abbrev pub numberedAnswer : Numbered → Option Refusal
+numberedAnswer (Is why) = some why
+numberedAnswer NoRefusal = none
 
 -- a number that was read
 abbrev pub fieldAnswer : Field → Read ℕ

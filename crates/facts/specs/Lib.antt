@@ -14,6 +14,7 @@ pub mod WellFormed
 -- Laws.
 pub mod ReadLaws
 pub mod ListLaws
+pub mod RefusalLaws
 pub mod BytesLaws
 pub mod PartialLaws
 pub mod BitsLaws

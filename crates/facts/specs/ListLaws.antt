@@ -1,11 +1,12 @@
 -- Laws of lists by number and by index.
 use mathlib.Core.Path.{_≡_, refl, ap, subst}
-use mathlib.Core.Option.{some, Option·none-ne-some, Option·some-injective}
+use mathlib.Core.Bool.{Bool, true, false}
+use mathlib.Core.Option.{none, some, Option·none-ne-some, Option·some-injective}
 use Prim.Native.Nat.{ℕ, zero, suc, _+_, _≤_, _<_}
 use native.Mathlib.Omega.{arith}
 use mathlib.Core.List.{List, [], _∷_}
 use lib.ListN.{length, getD, getElem?}
-use Rattle.facts.specs.Lists.{upFrom, total, All, Zip, nil, cons, At, here, there}
+use Rattle.facts.specs.Lists.{upFrom, total, find, All, Zip, nil, cons, At, here, there}
 
 -- ---- numbers from k on
 
@@ -45,6 +46,21 @@ module _ {A : Type 0} where
   pub all-at : (P : A → Type 0) {xs : List A} {j : ℕ} {x : A} → All P xs → At xs j x → P x
   all-at P h here = h .0
   all-at P h (there a) = all-at P (h .1) a
+
+-- ---- the first element that passes a test
+
+module _ {A : Type 0} (test : A → Bool) where
+  pub find-inv : (P : A → Type 0) (xs : List A) {x : A} → All P xs → find test xs ≡ some x → P x × (test x ≡ true)
+  find-inv P [] {x} a h = absurd (Option·none-ne-some x h)
+  find-inv P (y ∷ xs) {x} a h = go (test y) refl h (find-inv P xs (a .1))
+    where
+      go : (b : Bool) → test y ≡ b → elim b [ true ↦ some y | false ↦ find test xs ] ≡ some x → (find test xs ≡ some x → P x × (test x ≡ true)) → P x × (test x ≡ true)
+      go true e h on = subst (λ (z : A). P z × (test z ≡ true)) (Option·some-injective y x h) (a .0, e)
+      go false e h on = on h
+
+  pub find-none : (xs : List A) → All (λ (x : A). test x ≡ false) xs → find test xs ≡ none
+  find-none [] a = refl
+  find-none (y ∷ xs) a = rw (a .0, find) (find-none xs (a .1))
 
 -- ---- two lists side by side
 

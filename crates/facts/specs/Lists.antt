@@ -1,6 +1,8 @@
 -- Lists by number: what is made from each element, and a property of each.
 use Prim.Native.Nat.{ℕ, zero, suc, _+_}
+use mathlib.Core.Bool.{Bool, true, false}
 use mathlib.Core.List.{List, [], _∷_}
+use mathlib.Core.Option.{Option, none, some}
 
 -- the numbers from k on, n of them
 abbrev pub upFrom : ℕ → ℕ → List ℕ
@@ -11,6 +13,11 @@ upFrom k (suc n) = k ∷ upFrom (suc k) n
 abbrev pub total : {A : Type 0} → (A → ℕ) → List A → ℕ
 total size [] = 0
 total size (x ∷ xs) = size x + total size xs
+
+-- the first element that passes a test
+abbrev pub find : {A : Type 0} → (A → Bool) → List A → Option A
+find test [] = none
+find test (x ∷ xs) = elim (test x) [ true ↦ some x | false ↦ find test xs ]
 
 -- P of each element
 abbrev pub All : {A : Type 0} → (A → Type 0) → List A → Type 0

@@ -1,6 +1,10 @@
--- The twelve refusals of document 01, "Turned down": the number and the place that the document gives for each case of the code's enum.
+-- The refusals of document 01, "Turned down": the number and the place that the document gives for each case of the code's enum.
 -- Every promise about a refusal goes through these two.
 use Prim.Native.Nat.{ℕ}
+use mathlib.Core.List.{List, [], _∷_}
+use mathlib.Core.Option.{Option}
+use lib.Dec.{eqb}
+use Rattle.facts.specs.Lists.{find}
 use Rattle.facts.specs.declared.Refusal.{Refusal}
 use Rattle.facts.specs.declared.Refusal.the-variants.{Ends, Trailing, Range, Outside, Stray, Diagram, Short, Long, Blocked, Unmet, Missing, Width}
 
@@ -31,3 +35,11 @@ place (Blocked p) = p
 place (Unmet p) = p
 place (Missing p) = p
 place (Width p) = p
+
+-- all of them, at a place
+abbrev pub refusals : ℕ → List Refusal
+refusals p = Ends p ∷ Trailing p ∷ Range p ∷ Outside p ∷ Stray p ∷ Diagram p ∷ Short p ∷ Long p ∷ Blocked p ∷ Unmet p ∷ Missing p ∷ Width p ∷ []
+
+-- the one that has a number, at a place
+unfoldable pub refusalWith : ℕ → ℕ → Option Refusal
+refusalWith n p = find (λ (why : Refusal). eqb n (number why)) (refusals p)

@@ -3,7 +3,8 @@ pub mod number;
 pub mod write;
 
 ghost use mathlib.Core.Path.{_≡_};
-ghost use Rattle.facts.specs.Refusal.{number, place};
+ghost use Rattle.facts.specs.Refusal.{number, place, refusalWith};
+ghost use Rattle.facts.specs.Answers.{numberedAnswer};
 
 // Why an input is turned down, each with its place (document 01, "Turned down").
 pub enum Refusal {
@@ -70,6 +71,33 @@ pub fn refusal_place(why: Refusal) -> usize
         Refusal::Unmet(p) => p,
         Refusal::Missing(p) => p,
         Refusal::Width(p) => p,
+    }
+}
+
+// The refusal that has a number, if there is one.
+pub enum Numbered {
+    Is(Refusal),
+    Not,
+}
+
+// The refusal that has a number, at a place.
+pub fn refusal_with(number: u64, place: usize) -> Numbered
+    ensures { λ r. ⌜ numberedAnswer r ≡ refusalWith number place ⌝ }
+{
+    match number {
+        1 => Numbered::Is(Refusal::Ends(place)),
+        2 => Numbered::Is(Refusal::Trailing(place)),
+        3 => Numbered::Is(Refusal::Range(place)),
+        4 => Numbered::Is(Refusal::Outside(place)),
+        5 => Numbered::Is(Refusal::Stray(place)),
+        6 => Numbered::Is(Refusal::Diagram(place)),
+        7 => Numbered::Is(Refusal::Short(place)),
+        8 => Numbered::Is(Refusal::Long(place)),
+        9 => Numbered::Is(Refusal::Blocked(place)),
+        10 => Numbered::Is(Refusal::Unmet(place)),
+        11 => Numbered::Is(Refusal::Missing(place)),
+        12 => Numbered::Is(Refusal::Width(place)),
+        _ => Numbered::Not,
     }
 }
 

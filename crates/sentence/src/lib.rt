@@ -1,13 +1,15 @@
 // The sentence for a refusal that is known by its number and place.
 use explain::put_explanation;
+use facts::Numbered;
 use facts::Refusal;
+use facts::refusal_with;
 use report::Subject;
 use words::Described;
 ghost use mathlib.Core.Path.{_≡_};
 ghost use Prim.Native.Nat.{_≤_};
 ghost use lib.ListN.{length};
 ghost use Rattle.facts.specs.Read.{accepted};
-ghost use Rattle.facts.specs.Refusal.{number, place};
+ghost use Rattle.facts.specs.Refusal.{place};
 ghost use Rattle.facts.specs.Write.{lengthIn, writtenIn};
 ghost use Rattle.text.specs.Append.{largest};
 ghost use Rattle.report.specs.Report.{explanation};
@@ -19,13 +21,10 @@ pub fn explain(number: u64, place: usize, about: u64, out: &mut [u8]) -> Describ
     ensures { λ r. ⌜ describedAnswer r ≡ lengthIn (length (now (out .entry))) (accepted (sentence (subjectOf about) number place)) ⌝ }
     ensures { λ r. ⌜ now (out .exit) ≡ writtenIn (now (out .entry)) (accepted (sentence (subjectOf about) number place)) ⌝ }
 {
-    if number == 0 {
-        return Described::Length(0);
+    match refusal_with(number, place) {
+        Numbered::Not => Described::Length(0),
+        Numbered::Is(why) => explain_in(subject_of(about), why, out),
     }
-    if 12 < number {
-        return Described::Length(0);
-    }
-    explain_in(subject_of(about), refusal_of(number, place), out)
 }
 
 // What a refusal is about, by number.
@@ -38,27 +37,6 @@ fn subject_of(about: u64) -> Subject
         2 => Subject::Sets,
         3 => Subject::List,
         _ => Subject::Contracted,
-    }
-}
-
-// The refusal of a number at a place.
-fn refusal_of(n: u64, p: usize) -> Refusal
-    requires { ⌜ (1 ≤ n) × (n ≤ 12) ⌝ }
-    ensures { λ r. ⌜ (number r ≡ n) × (place r ≡ p) ⌝ }
-{
-    match n {
-        1 => Refusal::Ends(p),
-        2 => Refusal::Trailing(p),
-        3 => Refusal::Range(p),
-        4 => Refusal::Outside(p),
-        5 => Refusal::Stray(p),
-        6 => Refusal::Diagram(p),
-        7 => Refusal::Short(p),
-        8 => Refusal::Long(p),
-        9 => Refusal::Blocked(p),
-        10 => Refusal::Unmet(p),
-        11 => Refusal::Missing(p),
-        _ => Refusal::Width(p),
     }
 }
 

@@ -3,7 +3,7 @@ use mathlib.Core.Path.{refl}
 use native.Mathlib.Omega.{arith}
 use denote.Ref.{now}
 use Rattle.words.specs.DescribeLaws.{counted-short, counted-wrote}
-use Rattle.sentence.specs.SentenceLaws.{explanation-most}
+use Rattle.explain.specs.LengthLaws.{explanation-most}
 use borrow.Author.Needs.{needs}
 use Rattle.sentence.proofs.explain_in.Statement.{statement}
 use Rattle.sentence.proofs.explain_in.Tie as tie
