@@ -1,4 +1,5 @@
 // Numbers of a text: found one by one, each with a bound and the place of what is wrong.
+pub mod place;
 pub mod read;
 
 use text::Found;

@@ -1,8 +1,12 @@
 -- Texts and their numbers, computed.
 use mathlib.Core.Path.{_≡_, refl}
-use mathlib.Core.List.{[], _∷_}
+use Prim.Native.Nat.{ℕ}
+use mathlib.Core.Bool.{Bool, true, false}
+use mathlib.Core.List.{List, [], _∷_, map}
 use Rattle.facts.specs.Write.{over}
 use Rattle.text.specs.Text.{parsed, stray, large, blank, digit, numbersOf, bufferOf, decimal, listText}
+use Rattle.text.specs.Append.{bytes}
+use Rattle.text.specs.Place.{lineAt, entryAt, begunAt}
 
 -- nothing, and blanks alone
 nothing : numbersOf 255 [] ≡ parsed []
@@ -49,3 +53,12 @@ room-for-fewer = refl
 room-for-more : bufferOf (parsed (1 ∷ [])) (9 ∷ 9 ∷ []) ≡ 1 ∷ 9 ∷ []
 unfolding bufferOf over
 room-for-more = refl
+
+-- line, entry and whether it has begun, at each of some offsets
+abbrev Placed : List ℕ → List (ℕ × ℕ × ℕ × Bool) → Type 0
+Placed text table = map (λ c. (c .0, lineAt (c .0) text, entryAt (c .0) text, begunAt (c .0) text)) table ≡ table
+
+-- nothing yet, two entries on a line, a blank line, a tab, and the end of the text
+places : Placed (bytes "12 3\r\n\n\t7x") ((0, 1, 0, false) ∷ (1, 1, 0, true) ∷ (3, 1, 1, false) ∷ (8, 3, 2, false) ∷ (9, 3, 2, true) ∷ (10, 3, 2, true) ∷ [])
+unfolding lineAt entryAt begunAt blank
+places = refl

@@ -9,7 +9,7 @@ use lib.Dec.{ltb}
 use lib.ListN.{length, length-append}
 use borrow.Author.Tests.{le-leb, le-ltb, lt-ltb, ltb-true, ltb-false}
 use Rattle.facts.specs.Lists.{All}
-use Rattle.text.specs.Text.{parsed, withParsed, between, within, Place, soFar, began, blank, digit, numbersFrom, numbersOf, decimalIn, decimal, endOf, eachText, listText}
+use Rattle.text.specs.Text.{parsed, withParsed, between, within, Standing, soFar, began, blank, digit, numbersFrom, numbersOf, decimalIn, decimal, endOf, eachText, listText}
 
 -- ---- the digits
 
@@ -18,7 +18,7 @@ unfolding digit
 digit-is d l = rw (le-leb 48 (48 + d) (omega arith), lt-ltb (48 + d) 58 (omega arith))
 
 -- a digit is read
-read-digit : (most : ℕ) (place : Place) (p d n : ℕ) (rest : List ℕ) → d < 10 → n ≡ 10 * soFar place + d → n ≤ most
+read-digit : (most : ℕ) (place : Standing) (p d n : ℕ) (rest : List ℕ) → d < 10 → n ≡ 10 * soFar place + d → n ≤ most
     → numbersFrom most place p ((48 + d) ∷ rest) ≡ numbersFrom most (within n (began place p)) (p + 1) rest
 read-digit most place p d n rest l e m =
     let v : 10 * soFar place + (48 + d - 48) ≡ n = omega arith in

@@ -7,7 +7,7 @@ use native.Mathlib.Omega.{arith}
 use lib.ListN.{length, drop, getD, drop-of-length-le}
 use lib.Seq.{drop-cons}
 use borrow.Author.Tests.{le-leb, lt-leb}
-use Rattle.text.specs.Text.{Parsed, parsed, stray, large, withParsed, Place, between, within, soFar, began, ended, blank, digit, numbersFrom}
+use Rattle.text.specs.Text.{Parsed, parsed, stray, large, withParsed, Standing, between, within, soFar, began, ended, blank, digit, numbersFrom}
 
 pub withParsed-same : (r : Parsed (List ℕ)) → withParsed (ended between) r ≡ r
 withParsed-same (parsed xs) = refl
@@ -23,7 +23,7 @@ withParsed-both f g (large p) = refl
 pub rest-cons : (text : List ℕ) (at : ℕ) → at < length text → drop at text ≡ getD text at 0 ∷ drop (at + 1) text
 rest-cons text at l = let one : at + 1 ≡ suc at = omega arith in drop-cons text at 0 l ∙ ap (λ (k : ℕ). getD text at 0 ∷ drop k text) (sym one)
 
-module _ (most : ℕ) (place : Place) (text : List ℕ) (at : ℕ) where
+module _ (most : ℕ) (place : Standing) (text : List ℕ) (at : ℕ) where
   -- past the last byte
   pub text-ends : length text ≤ at → numbersFrom most place at (drop at text) ≡ parsed (ended place [])
   text-ends l = ap (numbersFrom most place at) (drop-of-length-le text l)

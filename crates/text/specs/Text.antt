@@ -28,28 +28,28 @@ withParsed f (stray p) = stray p
 withParsed f (large p) = large p
 
 -- where a reader stands
-pub data Place : Type 0 where
-  between : Place
+pub data Standing : Type 0 where
+  between : Standing
   -- within a number: its digits so far, and the offset of the first of them
-  within : ℕ → ℕ → Place
+  within : ℕ → ℕ → Standing
 
 -- the number that a digit here adds to
-abbrev pub soFar : Place → ℕ
+abbrev pub soFar : Standing → ℕ
 soFar between = 0
 soFar (within n s) = n
 
 -- the first offset of the number that a digit at p belongs to
-abbrev pub began : Place → ℕ → ℕ
+abbrev pub began : Standing → ℕ → ℕ
 began between p = p
 began (within n s) p = s
 
 -- with the number that ends here in front
-abbrev pub ended : Place → List ℕ → List ℕ
+abbrev pub ended : Standing → List ℕ → List ℕ
 ended between xs = xs
 ended (within n s) xs = n ∷ xs
 
 -- the numbers of a text, each at most `most`, from an offset on
-abbrev pub numbersFrom : ℕ → Place → ℕ → List ℕ → Parsed (List ℕ)
+abbrev pub numbersFrom : ℕ → Standing → ℕ → List ℕ → Parsed (List ℕ)
 numbersFrom most place p [] = parsed (ended place [])
 numbersFrom most place p (b ∷ text) = elim (digit b) [
   | true ↦ elim (leb (10 * soFar place + (b - 48)) most) [

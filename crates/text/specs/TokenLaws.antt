@@ -99,7 +99,7 @@ over-one xs before i n l m e =
     rw (add-one i, longer, long, drop-cons before i 0 m, set-at (take i xs) (getD before i 0) (drop (suc i) before) n i long, take-suc xs i 0 l, e, append-assoc (take i xs) (getD xs i 0 ∷ []) (drop (suc i) before))
 
 -- all that there is room for
-take-room : (xs : List ℕ) (i room : ℕ) → i ≡ min (length xs) room → take i xs ≡ take room xs
+pub take-room : (xs : List ℕ) (i room : ℕ) → i ≡ min (length xs) room → take i xs ≡ take room xs
 take-room [] i room e = take-nil i ∙ sym (take-nil room)
 take-room (x ∷ xs) i zero e = let none : i ≡ 0 = omega arith in ap (λ (k : ℕ). take k (x ∷ xs)) none
 take-room (x ∷ xs) i (suc room) e =

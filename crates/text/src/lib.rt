@@ -24,3 +24,9 @@ pub enum Token {
     Stray(usize),
     Large(usize),
 }
+
+// A place of a text: its line, counted from 1, and its entry, counted from 0.
+pub struct Place {
+    pub line: usize,
+    pub entry: usize,
+}
