@@ -2,8 +2,10 @@
 use crate::output::fault;
 use crate::output::within16;
 use report::Fault;
+use scan::place::place;
 use text::Found;
 use text::One;
+use text::append::append;
 use text::append::within;
 ghost use Rattle.io.specs.Counts.{Counts};
 
@@ -51,29 +53,56 @@ pub fn is_probe_name(i: usize) -> bool {
     check::same(&name[from..length], b".probe")
 }
 
-// The file that argument i names, open for reading: standard input for `-`, and where there is no such argument. What is wrong is said, and the answer is below 0.
-fn open(i: usize) -> i32 {
-    let mut name = io::buffer();
-    let length = os::arg(i, &mut name);
-    if os::errno() == libc::EINVAL {
-        return libc::STDIN_FILENO;
+// The name of what argument i stands for, at the front of a buffer. Errno is left as by `os::arg`.
+pub fn name_of(i: usize, name: &mut [u8]) -> usize
+    ensures { λ r. ⌜ Counts r (now (name .exit)) ⌝ }
+{
+    let length = os::arg(i, name);
+    if is_input(i) {
+        let end = append(name, 0, b"standard input");
+        return within(end, name);
     }
-    if check::same(&name[..length], b"-") {
-        return libc::STDIN_FILENO;
-    }
-    let fd = os::open_read(&name[..length]);
-    if fd < 0 {
-        os::fail(&name[..length]);
-    }
-    fd
+    length
 }
 
 // The bytes of the file that argument i names, as many as there is room for.
 pub fn read_file(i: usize, buf: &mut [u8]) -> Given
     ensures { λ r. ⌜ Counts (r .length) (now (buf .exit)) ⌝ }
 {
-    let fd = open(i);
+    read_as(b"FILE", i, buf)
+}
+
+// The same with a word for a name that is too long. What is wrong is said.
+fn read_as(word: &[u8], i: usize, buf: &mut [u8]) -> Given
+    ensures { λ r. ⌜ Counts (r .length) (now (buf .exit)) ⌝ }
+{
+    let mut space = io::buffer();
+    let length = name_of(i, &mut space);
+    if os::errno() == libc::ENAMETOOLONG {
+        os::fail(word);
+        return Given {
+            ok: false,
+            length: 0,
+        };
+    }
+    let name = &space[..length];
+    read_from(open(i, name), name, buf)
+}
+
+// What argument i stands for, open for reading; below 0 where that fails.
+fn open(i: usize, name: &[u8]) -> i32 {
+    if is_input(i) {
+        return libc::STDIN_FILENO;
+    }
+    os::open_read(name)
+}
+
+// The bytes of an open file, as many as there is room for. What is wrong is said of its name.
+fn read_from(fd: i32, name: &[u8], buf: &mut [u8]) -> Given
+    ensures { λ r. ⌜ Counts (r .length) (now (buf .exit)) ⌝ }
+{
     if fd < 0 {
+        os::fail(name);
         return Given {
             ok: false,
             length: 0,
@@ -83,7 +112,7 @@ pub fn read_file(i: usize, buf: &mut [u8]) -> Given
     let mut more = [0; 1];
     let got = libc::read(fd, &mut more);
     if got < 0 {
-        unread(fd);
+        os::fail(name);
         return Given {
             ok: false,
             length: 0,
@@ -93,21 +122,13 @@ pub fn read_file(i: usize, buf: &mut [u8]) -> Given
     Given { ok: true, length }
 }
 
-// A read has failed.
-fn unread(fd: i32) {
-    if fd == libc::STDIN_FILENO {
-        return os::fail(b"standard input");
-    }
-    os::fail(b"read");
-}
-
 // The text that argument i names.
 fn read_text(i: usize, text: &mut [u8]) -> Given
     ensures { λ r. ⌜ Counts (r .length) (now (text .exit)) ⌝ }
 {
-    let given = read_file(i, text);
+    let given = read_as(b"TEXT", i, text);
     if given.length == TEXT {
-        fault(Fault::Long(TEXT - 1));
+        wrong_text(i, Fault::Long(TEXT - 1));
         return Given {
             ok: false,
             length: 0,
@@ -123,13 +144,12 @@ pub fn read_list(i: usize, list: &mut [u16]) -> Given
     let mut text = [0; TEXT];
     let given = read_text(i, &mut text);
     let n = given.length;
-    let found = counted(
-        scan::read::numbers16(&text[..n], LIST_NUMBER, list),
-        LIST_NUMBER as u32,
-    );
+    let part = &text[..n];
+    let found = scan::read::numbers16(part, LIST_NUMBER, list);
+    let count = counted(i, part, found, LIST_NUMBER as u32);
     Given {
-        ok: given.ok && found.ok,
-        length: within16(found.length, list),
+        ok: given.ok && count.ok,
+        length: within16(count.length, list),
     }
 }
 
@@ -140,29 +160,34 @@ pub fn read_state(i: usize, state: &mut [u8]) -> Given
     let mut text = [0; TEXT];
     let given = read_text(i, &mut text);
     let n = given.length;
-    let found = counted(
-        scan::read::numbers8(&text[..n], STATE_NUMBER, state),
-        STATE_NUMBER as u32,
-    );
+    let part = &text[..n];
+    let found = scan::read::numbers8(part, STATE_NUMBER, state);
+    let count = counted(i, part, found, STATE_NUMBER as u32);
     Given {
-        ok: given.ok && found.ok,
-        length: within(found.length, state),
+        ok: given.ok && count.ok,
+        length: within(count.length, state),
     }
 }
 
-// How many numbers were found, each at most `most`.
-fn counted(found: Found, most: u32) -> Given {
+// How many numbers were found in the text of argument i, each at most `most`.
+fn counted(i: usize, text: &[u8], found: Found, most: u32) -> Given {
     match found {
         Found::Count(n) => Given {
             ok: true,
             length: n,
         },
-        Found::Stray(p) => wrong(Fault::Stray(p)),
-        Found::Large(p) => wrong(Fault::Large(p, most)),
+        Found::Stray(p) => {
+            let at = place(text, p);
+            wrong_text(i, Fault::Stray(at.line, at.entry))
+        }
+        Found::Large(p) => {
+            let at = place(text, p);
+            wrong_text(i, Fault::Large(at.line, at.entry, most))
+        }
     }
 }
 
-// The number that argument i is.
+// The number that argument i is, an action's.
 pub fn read_number(i: usize) -> Given {
     let mut word = io::buffer();
     let length = os::arg(i, &mut word);
@@ -171,16 +196,21 @@ pub fn read_number(i: usize) -> Given {
             ok: true,
             length: n as usize,
         },
-        One::None => wrong(Fault::NotOne),
-        One::More => wrong(Fault::NotOne),
-        One::Stray(p) => wrong(Fault::Stray(p)),
-        One::Large(p) => wrong(Fault::Large(p, ARGUMENT)),
+        One::Large(_) => wrong(b"ACTION", Fault::Above(ARGUMENT)),
+        _ => wrong(b"ACTION", Fault::NotOne),
     }
 }
 
-// Nothing was had, and what is wrong is said.
-fn wrong(why: Fault) -> Given {
-    fault(why);
+// Nothing was had of the text of argument i, and what is wrong is said.
+fn wrong_text(i: usize, why: Fault) -> Given {
+    let mut name = io::buffer();
+    let length = name_of(i, &mut name);
+    wrong(&name[..length], why)
+}
+
+// The same of a name.
+fn wrong(name: &[u8], why: Fault) -> Given {
+    fault(name, why);
     Given {
         ok: false,
         length: 0,

@@ -1,5 +1,6 @@
 // What the tool writes: answers to standard output, sums of lists and what is wrong to standard error, and a digit for the exit status to descriptor 3. A write that fails is told, and the status is 2.
 use crate::asking::Asked;
+use crate::input::name_of;
 use arguments::Wrong;
 use estimate::Est;
 use facts::Refusal;
@@ -15,8 +16,10 @@ const STATUS: i32 = 3;
 // The most bytes of a line.
 const LINE: usize = 512;
 
-// The same with words of the command line, which have 4096 bytes at most, in it.
-const LONG_LINE: usize = 8704;
+// The same with a name, and with two words of the command line.
+const NAMED_LINE: usize = libc::PATH_MAX + LINE;
+
+const WORDS_LINE: usize = libc::PATH_MAX + NAMED_LINE;
 
 // The most bytes of a list as text: five digits and a blank for each entry.
 const LIST_TEXT: usize = 65536;
@@ -62,10 +65,10 @@ pub fn failed() {
     io::write_all(STATUS, b"2");
 }
 
-// What is wrong with a text.
-pub fn fault(why: Fault) {
-    let mut line = [0; LINE];
-    let n = report::put_fault(&mut line, 0, why);
+// What is wrong with the text or argument of a name.
+pub fn fault(name: &[u8], why: Fault) {
+    let mut line = [0; NAMED_LINE];
+    let n = report::put_fault(&mut line, 0, name, why);
     write(libc::STDERR_FILENO, &line, n);
 }
 
@@ -75,17 +78,17 @@ pub fn complain(i: usize, why: Wrong) {
     let n = os::arg(1, &mut command);
     let mut word = io::buffer();
     let m = os::arg(i, &mut word);
-    let mut line = [0; LONG_LINE];
+    let mut line = [0; WORDS_LINE];
     let end = arguments::put_wrong(&mut line, 0, &command[..n], &word[..m], why);
     write(libc::STDERR_FILENO, &line, end);
 }
 
 // The file was refused as one kind, and is accepted as the other: a probe file, or a task file.
 pub fn hint(i: usize, either: bool, probe: bool) {
-    let mut word = io::buffer();
-    let n = os::arg(i, &mut word);
-    let mut line = [0; LONG_LINE];
-    let end = arguments::put_hint(&mut line, 0, &word[..n], either, probe);
+    let mut name = io::buffer();
+    let n = name_of(i, &mut name);
+    let mut line = [0; NAMED_LINE];
+    let end = arguments::put_hint(&mut line, 0, &name[..n], either, probe);
     write(libc::STDERR_FILENO, &line, end);
 }
 

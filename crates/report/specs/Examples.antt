@@ -1,4 +1,4 @@
--- Answers in words, computed: each refusal, with its sentence for each subject, each kind of estimate, and each fault of a text.
+-- Answers in words, computed: each refusal, with its sentence for each subject, each kind of estimate, and each fault of a text or an argument.
 use mathlib.Core.Path.{_≡_, refl}
 use Prim.Native.Nat.{ℕ}
 use mathlib.Core.List.{List, [], _∷_, map}
@@ -10,7 +10,8 @@ use Rattle.text.specs.Text.{decimal}
 use Rattle.text.specs.Append.{bytes}
 use Rattle.report.specs.declared.Subject.{Subject}
 use Rattle.report.specs.declared.Subject.the-variants.{File, State, Sets, List as OfList, Contracted}
-use Rattle.report.specs.declared.Fault.the-variants.{Stray as StrayByte, Large, NotOne, Long as LongText}
+use Rattle.report.specs.declared.Fault.{Fault}
+use Rattle.report.specs.declared.Fault.the-variants.{Stray as StrayEntry, Large, Long as LongText, NotOne, Above}
 use Rattle.report.specs.Report.{refusalText, countText, estimateText, faultText, explanation}
 
 -- what is said, and the words
@@ -48,11 +49,13 @@ estimates : Said estimateText (
 unfolding decimal
 estimates = refl
 
-faults : Said faultText (
-    (StrayByte 2, "byte 2 of the text is neither a digit nor a blank\n")
-    ∷ (Large 2 255, "the number at byte 2 of the text is above 255\n")
-    ∷ (NotOne, "one number is expected\n")
-    ∷ (LongText 65536, "the text has more than 65536 bytes\n")
+-- of a text and of an argument, by name
+faults : Said (λ (c : String × Fault). faultText (bytes (c .0)) (c .1)) (
+    (("plan.txt", StrayEntry 3 7), "plan.txt:3: entry 7, counted from 0, is no number\n")
+    ∷ (("standard input", Large 1 0 65535), "standard input:1: entry 0, counted from 0, is above 65535\n")
+    ∷ (("plan.txt", LongText 131071), "plan.txt: the text has more than 131071 bytes\n")
+    ∷ (("ACTION", NotOne), "ACTION is not one number\n")
+    ∷ (("ACTION", Above 4294967295), "ACTION is above 4294967295\n")
     ∷ [])
 unfolding decimal
 faults = refl

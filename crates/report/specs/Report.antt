@@ -15,7 +15,7 @@ use Rattle.text.specs.Append.{bytes}
 use Rattle.report.specs.declared.Subject.{Subject}
 use Rattle.report.specs.declared.Subject.the-variants.{File, State, Sets, List as OfList, Contracted}
 use Rattle.report.specs.declared.Fault.{Fault}
-use Rattle.report.specs.declared.Fault.the-variants.{Stray as StrayByte, Large, NotOne, Long as LongText}
+use Rattle.report.specs.declared.Fault.the-variants.{Stray as StrayEntry, Large, Long as LongText, NotOne, Above}
 
 -- text, a number, and text
 abbrev pub around : String → ℕ → String → List ℕ
@@ -35,12 +35,21 @@ estimateText Never = bytes "estimate never\n"
 estimateText Over = bytes "estimate over\n"
 estimateText (Exact n) = around "estimate " n "\n"
 
--- what is wrong with a text of numbers
-abbrev pub faultText : Fault → List ℕ
-faultText (StrayByte p) = around "byte " p " of the text is neither a digit nor a blank\n"
-faultText (Large p most) = around "the number at byte " p " of the text is above " ++ around "" most "\n"
-faultText NotOne = bytes "one number is expected\n"
-faultText (LongText most) = around "the text has more than " most " bytes\n"
+-- the line and the entry of a text, up to what is wrong with it
+abbrev pub placeText : ℕ → ℕ → List ℕ
+placeText line entry = around ":" line ": entry " ++ around "" entry ", counted from 0, is "
+
+-- what is wrong with a text or an argument, after its name
+abbrev pub whyText : Fault → List ℕ
+whyText (StrayEntry line entry) = placeText line entry ++ bytes "no number\n"
+whyText (Large line entry most) = placeText line entry ++ around "above " most "\n"
+whyText (LongText most) = around ": the text has more than " most " bytes\n"
+whyText NotOne = bytes " is not one number\n"
+whyText (Above most) = around " is above " most "\n"
+
+-- the same with the name
+abbrev pub faultText : List ℕ → Fault → List ℕ
+faultText name why = name ++ whyText why
 
 -- ---- what a refusal means
 

@@ -6,7 +6,7 @@ use text::append::append_number;
 ghost use mathlib.Core.List.{_++_};
 ghost use Rattle.text.specs.Text.{decimal};
 ghost use Rattle.text.specs.Append.{Adds};
-ghost use Rattle.report.specs.Report.{refusalText, countText, estimateText, faultText};
+ghost use Rattle.report.specs.Report.{refusalText, countText, estimateText, placeText, whyText, faultText};
 
 // What an operation looked at when it refused.
 pub enum Subject {
@@ -21,12 +21,18 @@ pub enum Subject {
     Contracted,
 }
 
-// What is wrong with a text of numbers: a byte that is neither a digit nor a blank, a number above the bound, or the number of numbers.
+// What is wrong with a text of numbers, or with an argument that has to be one.
 pub enum Fault {
-    Stray(usize),
-    Large(usize, u32),
-    NotOne,
+    // an entry that is no number: its line, counted from 1, and its number, counted from 0
+    Stray(usize, usize),
+    // one above the bound
+    Large(usize, usize, u32),
+    // more bytes than a text may have
     Long(usize),
+    // an argument that is not one number
+    NotOne,
+    // one above the bound
+    Above(u32),
 }
 
 // Text, a number, and text.
@@ -66,29 +72,37 @@ pub fn put_estimate(out: &mut [u8], at: usize, e: Est) -> usize
     }
 }
 
-// What is wrong with a text, and a newline.
-pub fn put_fault(out: &mut [u8], at: usize, fault: Fault) -> usize
-    ensures { λ r. ⌜ Adds (faultText fault) (now (out .entry)) (now (out .exit)) at r ⌝ }
+// What is wrong with the text or argument of a name, and a newline.
+pub fn put_fault(out: &mut [u8], at: usize, name: &[u8], why: Fault) -> usize
+    ensures { λ r. ⌜ Adds (faultText (now (name .entry)) why) (now (out .entry)) (now (out .exit)) at r ⌝ }
 {
-    match fault {
-        Fault::Stray(p) => put_around(
-            out,
-            at,
-            b"byte ",
-            p,
-            b" of the text is neither a digit nor a blank\n",
-        ),
-        Fault::Large(p, most) => {
-            let first = put_around(
-                out,
-                at,
-                b"the number at byte ",
-                p,
-                b" of the text is above ",
-            );
-            put_around(out, first, b"", most as usize, b"\n")
+    let first = append(out, at, name);
+    put_why(out, first, why)
+}
+
+// The same after its name.
+fn put_why(out: &mut [u8], at: usize, why: Fault) -> usize
+    ensures { λ r. ⌜ Adds (whyText why) (now (out .entry)) (now (out .exit)) at r ⌝ }
+{
+    match why {
+        Fault::Stray(line, entry) => {
+            let first = put_place(out, at, line, entry);
+            append(out, first, b"no number\n")
         }
-        Fault::NotOne => append(out, at, b"one number is expected\n"),
-        Fault::Long(most) => put_around(out, at, b"the text has more than ", most, b" bytes\n"),
+        Fault::Large(line, entry, most) => {
+            let first = put_place(out, at, line, entry);
+            put_around(out, first, b"above ", most as usize, b"\n")
+        }
+        Fault::Long(most) => put_around(out, at, b": the text has more than ", most, b" bytes\n"),
+        Fault::NotOne => append(out, at, b" is not one number\n"),
+        Fault::Above(most) => put_around(out, at, b" is above ", most as usize, b"\n"),
     }
+}
+
+// The line and the entry, up to what is wrong with it.
+fn put_place(out: &mut [u8], at: usize, line: usize, entry: usize) -> usize
+    ensures { λ r. ⌜ Adds (placeText line entry) (now (out .entry)) (now (out .exit)) at r ⌝ }
+{
+    let first = put_around(out, at, b":", line, b": entry ");
+    put_around(out, first, b"", entry, b", counted from 0, is ")
 }
