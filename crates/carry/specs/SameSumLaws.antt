@@ -8,6 +8,7 @@ use lib.ListN.{length, take}
 use borrow.Author.Tests.{leb-true}
 use Rattle.facts.specs.Read.{Read, accepted, refused, withValue}
 use Rattle.facts.specs.ReadLaws.{through, onward, checked, made, value-of, next-of}
+use Rattle.facts.specs.Bytes.{Bytes}
 use Rattle.facts.specs.Write.{over, lengthIn}
 use Rattle.facts.specs.WriteLaws.{length-in, written-in, written-inv}
 use Rattle.facts.specs.Run.{atMost}
@@ -18,12 +19,13 @@ use Rattle.taskfile.specs.TaskReadLaws.{task-wf, task-limits}
 use Rattle.taskfile.specs.TaskLaws.{task-plan}
 use Rattle.probefile.specs.Probe.{probeSum}
 use Rattle.probefile.specs.Probe.{maxList as maxProbeList}
-use Rattle.probefile.specs.ProbeFile.{writeProbe}
+use Rattle.probefile.specs.ProbeFile.{readProbe, writeProbe}
 use Rattle.probefile.specs.ProbeLaws.{probe-plan}
 use Rattle.compilation.specs.Compile.{probeOf}
+use Rattle.compilation.specs.CompiledLaws.{compiled-reads}
 use Rattle.compilation.specs.CompiledLengthLaws.{compiled-length}
 use Rattle.compilation.specs.CompileFile.{probeFileOf, compileFile, compiledBuffer}
-use Rattle.compilation.specs.CompileFileLaws.{file-of}
+use Rattle.compilation.specs.CompileFileLaws.{file-of, compiled-from}
 use Rattle.plans.specs.Carry.{expand, contract}
 use Rattle.plans.specs.Forward.{forward}
 use Rattle.plans.specs.Contract.{contract-expand}
@@ -82,6 +84,18 @@ answer-inv carried out {n} {c} h =
 -- If f has the task t, what is written is the probe file of t.
 pub compiled-bytes : (f out : List ℕ) {t : Task} {n : ℕ} → readTask f ≡ accepted t → compileFile f (length out) ≡ accepted n → take n (compiledBuffer f out) ≡ writeProbe (probeOf t)
 compiled-bytes f out h e = cc (written-inv (probeFileOf f) out e, file-of f h)
+
+-- the file `written` has the probe of the task of f
+pub record WrittenFrom (f written : List ℕ) : Type 0 where
+  pub t : Task
+  pub task : readTask f ≡ accepted t
+  pub probe : readProbe written ≡ accepted (probeOf t)
+
+-- What compiling wrote has.
+pub written-from : (f : List ℕ) → Bytes f → (out : List ℕ) {now : List ℕ} {n : ℕ} → compileFile f (length out) ≡ accepted n → now ≡ compiledBuffer f out → WrittenFrom f (take n now)
+written-from f bytes out {now} {n} h e =
+    let w = compiled-from f out h in
+    record { t = w .t; task = w .task; probe = ap (λ (z : List ℕ). readProbe (take n z)) e ∙ ap readProbe (w .bytes) ∙ compiled-reads f bytes (w .task) }
 
 -- A buffer of 13,846 bytes has room for the probe file of each accepted task.
 pub compiled-answers : (f : List ℕ) {t : Task} → readTask f ≡ accepted t → {room : ℕ} → maxWritten ≤ room → compileFile f room ≡ accepted (length (writeProbe (probeOf t)))

@@ -6,29 +6,27 @@ use native.Mathlib.Numerals.{add-one}
 use native.Mathlib.Omega.{arith}
 use mathlib.Core.List.{List, [], _∷_}
 use lib.Dec.{ltb}
-use lib.ListN.{length, getD, take, drop, drop-of-length-le}
+use lib.ListN.{length, getD, drop, drop-of-length-le}
 use lib.Seq.{drop-cons}
 use borrow.Author.Tests.{lt-ltb, le-ltb}
 use Rattle.facts.specs.Read.{Read, accepted, refused, check, withValue, _>>=_}
 use Rattle.facts.specs.ReadLaws.{through, Made, made, not-made, bind-assoc}
-use Rattle.facts.specs.Bytes.{Bytes}
 use Rattle.facts.specs.Run.{atMost}
 use Rattle.taskfile.specs.Task.{Action, Task, maxList, maxWritten, maxActions}
 use Rattle.taskfile.specs.TaskFile.{readTask, checkTask}
 use Rattle.taskfile.specs.TaskReadLaws.{task-limits}
 use Rattle.probefile.specs.Probe.{probeSum}
 use Rattle.probefile.specs.Probe.{maxList as maxProbeList}
-use Rattle.probefile.specs.ProbeFile.{readProbe, writeProbe, runProbe}
+use Rattle.probefile.specs.ProbeFile.{writeProbe, runProbe}
 use Rattle.compilation.specs.Compile.{probeOf}
-use Rattle.compilation.specs.CompiledLaws.{compiled-reads}
-use Rattle.compilation.specs.CompileFile.{probeFileOf, compileFile, compiledBuffer}
-use Rattle.compilation.specs.CompileFileLaws.{compiled-from}
+use Rattle.compilation.specs.CompileFile.{probeFileOf, compileFile}
 use Rattle.compilation.specs.ProgramLaws.{always-room}
 use Rattle.plans.specs.Carry.{startedBy, contractOf, contract}
 use Rattle.plans.specs.Contract.{contract-start, contract-other}
 use Rattle.facts.specs.WriteRowLaws.{Cut}
 use Rattle.carry.specs.CarryFile.{startsAtMost, contracted}
 use Rattle.carry.specs.StartLaws.{starts-other, starts-one, starts-over}
+use Rattle.carry.specs.SameSumLaws.{WrittenFrom}
 use Rattle.numbering.specs.InPlace.{Noted, NotedIn, contractIn, countIn, ProbePlanOf}
 use Rattle.numbering.specs.NoteLaws.{noted-most}
 
@@ -147,18 +145,6 @@ contract-no-file f list h = rw (not-made (λ (t : Task). tt) (readTask f) h)
 pub contract-refused : (f list : List ℕ) {n p : ℕ} → compileFile f maxWritten ≡ refused n p → contracted f list ≡ refused n p
 unfolding contracted probeFileOf
 contract-refused f list h = rw (not-made (λ (t : Task). writeProbe (probeOf t)) (readTask f) (not-made length (probeFileOf f) (sym (always-room f) ∙ h)))
-
--- the file `written` has the probe of the task of f
-pub record WrittenFrom (f written : List ℕ) : Type 0 where
-  pub t : Task
-  pub task : readTask f ≡ accepted t
-  pub probe : readProbe written ≡ accepted (probeOf t)
-
--- What compiling wrote has.
-pub written-from : (f : List ℕ) → Bytes f → (out : List ℕ) {now : List ℕ} {n : ℕ} → compileFile f (length out) ≡ accepted n → now ≡ compiledBuffer f out → WrittenFrom f (take n now)
-written-from f bytes out {now} {n} h e =
-    let w = compiled-from f out h in
-    record { t = w .t; task = w .task; probe = ap (λ (z : List ℕ). readProbe (take n z)) e ∙ ap readProbe (w .bytes) ∙ compiled-reads f bytes (w .task) }
 
 module _ {f written : List ℕ} (w : WrittenFrom f written) (list : List ℕ) where
   -- what is answered once its sum is known

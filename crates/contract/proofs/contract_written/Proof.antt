@@ -11,7 +11,8 @@ use Rattle.facts.specs.BytesLaws.{bytes-each}
 use Rattle.compilation.specs.CompileFile.{compileFile, compiledAnswer}
 use Rattle.compilation.specs.ProgramLaws.{answer-fits}
 use Rattle.carry.specs.AnswerLaws.{refused-in}
-use Rattle.contract.specs.ContractLaws.{WrittenFrom, written-from, contract-refused, contract-blocked, contract-ran}
+use Rattle.carry.specs.SameSumLaws.{WrittenFrom, written-from}
+use Rattle.contract.specs.ContractLaws.{contract-refused, contract-blocked, contract-ran}
 use borrow.Author.Needs.{needs}
 use Rattle.contract.proofs.contract_written.Statement.{statement}
 use Rattle.contract.proofs.contract_written.Tie as tie
