@@ -20,6 +20,7 @@ use Rattle.probefile.specs.ProbeLaws.{probe-wf, probe-lines}
 use Rattle.probefile.specs.InPlace.{probeAt, stepAt, Located}
 use Rattle.probefile.specs.IndexLaws.{not-read, accepted-probe, starts, steps-in-place}
 use Rattle.compilation.specs.Compile.{flat}
+use Rattle.compilation.specs.CompiledLengthLaws.{values-most}
 use Rattle.text.specs.Append.{bytes}
 use Rattle.text.specs.PrintLaws.{digits-most}
 use Rattle.words.specs.Words.{partialText}
@@ -99,8 +100,8 @@ abbrev pub mostProbeText : ℕ
 mostProbeText = 524288
 
 module _ {p : Probe} (ok : WfProbe p) where
-  state-most : {x : Partial} → WfPartial (p .sizes) x → length (partialText (length (p .sizes)) x) ≤ 347
-  state-most w = omega (arith, ok .variables, partial-most {most = maxValues} (omega arith) (omega (arith, ok .variables)) (ok .sizes) w)
+  state-most : {x : Partial} → WfPartial (p .sizes) x → length (partialText (length (p .sizes)) x) ≤ 5 + 6 * maxVariables
+  state-most w = omega (arith, ok .variables, values-most w, partial-most {most = maxValues} (omega arith) (omega (arith, ok .variables)) (ok .sizes) w)
 
   -- A step.
   step-most : (k : ℕ) (st : Step) → k < 1000 → WfStep (p .sizes) st → length (stepText (length (p .sizes)) k st) ≤ 743

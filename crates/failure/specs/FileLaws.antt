@@ -67,11 +67,14 @@ module _ (f list : List ℕ) where
 
     module _ (offsets : List ℕ) (loc : Located f offsets) where
       -- Each step stands at its offset.
-      step-same : (r : ℕ) → r < k → (stepPre (p .steps) r ≡ preAt f (take k offsets) r) × (stepEff (p .steps) r ≡ effAt f (take k offsets) r)
+      pub step-there : (r : ℕ) → r < k → (stepPre (p .steps) r ≡ preAt f offsets r) × (stepEff (p .steps) r ≡ effAt f offsets r)
       unfolding stepAt
-      step-same r l =
+      step-there r l =
           let o = at-step f offsets (accepted-probe f h .reads) loc r (omega (arith, accepted-probe f h .steps)) in
-          (rw (look (o .1), stepPre, getD-take k offsets r 0 l) (sym (ap (λ (st : Step). st .pre) (o .2))), rw (look (o .1), stepEff, getD-take k offsets r 0 l) (sym (ap (λ (st : Step). st .eff) (o .2))))
+          (rw (look (o .1), stepPre) (sym (ap (λ (st : Step). st .pre) (o .2))), rw (look (o .1), stepEff) (sym (ap (λ (st : Step). st .eff) (o .2))))
+
+      step-same : (r : ℕ) → r < k → (stepPre (p .steps) r ≡ preAt f (take k offsets) r) × (stepEff (p .steps) r ≡ effAt f (take k offsets) r)
+      step-same r l = rw (getD-take k offsets r 0 l) (step-there r l)
 
       pub probe-fits : k ≤ length offsets → length list ≤ maxProbeList → probeFailure f list ≡ failureIn f (bytes "step ") (take k offsets) (1 + 2 * n) list (take n (drop (1 + n) f))
       unfolding probeFailure failureIn

@@ -69,6 +69,11 @@ low-values (d ∷ sizes) [] few small i k = absurd i
 low-values (d ∷ sizes) (x ∷ s) few small i zero = omega (arith, i .0, small .0 .1)
 low-values (d ∷ sizes) (x ∷ s) few small i (suc k) = low-values sizes s few (small .1) (i .1) k
 
+-- All facts of a partial state, at most 32 bytes for each variable.
+pub fails-most : {most : ℕ} (sizes : List ℕ) → most ≤ 100 → length sizes ≤ 100 → All (λ d. (2 ≤ d) × (d ≤ most)) sizes → (p : Partial) (s : List ℕ) → WfPartial sizes p → Inside sizes s
+    → length (failuresText p s) ≤ 32 * length sizes
+fails-most sizes few l small p s w inside = rw (← inside-length sizes s inside) (failures-most s sizes 0 p few (low-values sizes s few small inside) (omega arith) small (w .values))
+
 -- ---- where a run comes to its end
 
 module _ (sizes : List ℕ) where
@@ -93,19 +98,17 @@ module _ (sizes : List ℕ) where
 
     -- The text of an accepted file with at most 57 variables of at most 66 values, and a list of at most 10000 entries.
     module _ {most : ℕ} (label : List ℕ) (goal : Partial) (few : most ≤ 100) (variables : length sizes ≤ maxVariables) (small : All (λ d. (2 ≤ d) × (d ≤ most)) sizes) (brief : length label ≤ 7) (numbers : count ≤ 1000) where
-      fails-most : (p : Partial) (s : List ℕ) → WfPartial sizes p → Inside sizes s → length (failuresText p s) ≤ 1824
-      fails-most p s w inside =
-          let same = inside-length sizes s inside in
-          rw (← same) (omega (arith, failures-most s sizes 0 p few (low-values sizes s few small inside) (omega arith) small (w .values)))
+      all-most : (p : Partial) (s : List ℕ) → WfPartial sizes p → Inside sizes s → length (failuresText p s) ≤ 32 * maxVariables
+      all-most p s w inside = omega (arith, fails-most sizes few (omega arith) small p s w inside)
 
       text-most : WfPartial sizes goal → (h : Halt) → Good count 10000 h → length (haltText label goal h) ≤ mostFailure
       text-most g (stopped i a p s) good =
-          simp length-append (omega (arith, digits-most 3 i (good .0), digits-most 2 a (omega (arith, good .1)), fails-most p s (good .2) (good .3)))
+          simp length-append (omega (arith, digits-most 3 i (good .0), digits-most 2 a (omega (arith, good .1)), all-most p s (good .2) (good .3)))
       text-most g (ended s) good = go (holds goal s)
         where
           go : (t : Bool) → length (goalText t (failuresText goal s)) ≤ mostFailure
           go true = omega arith
-          go false = simp length-append (omega (arith, fails-most goal s g good))
+          go false = simp length-append (omega (arith, all-most goal s g good))
 
       pub failure-most : WfPartial sizes goal → (list s : List ℕ) {text : List ℕ} → length list ≤ 10000 → Inside sizes s → failure label count pre eff goal list s ≡ accepted text → length text ≤ mostFailure
       failure-most g list s l inside e =

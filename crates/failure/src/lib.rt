@@ -1,6 +1,6 @@
 // Why a list is no plan: the entry that does not apply, or the goal, with each fact that fails and the value that is there.
 mod run;
-mod sentence;
+pub mod sentence;
 
 use facts::Refusal;
 use probefile::Indexed;

@@ -59,7 +59,7 @@ fn put_goal(out: &mut [u8], file: &[u8], goal: usize, state: &[u8]) -> usize
 }
 
 // The facts of the partial state at an offset that fail in a state, a line each.
-fn put_failures(out: &mut [u8], at: usize, file: &[u8], place: usize, state: &[u8]) -> usize
+pub fn put_failures(out: &mut [u8], at: usize, file: &[u8], place: usize, state: &[u8]) -> usize
     ensures { λ r. ⌜ Adds (failuresText (partialAt (now (file .entry)) place) (now (state .entry))) (now (out .entry)) (now (out .exit)) at r ⌝ }
 {
     match read_map(file, place) {

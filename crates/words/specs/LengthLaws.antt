@@ -13,14 +13,15 @@ use Rattle.facts.specs.ReadLaws.{not-refused, made, through}
 use Rattle.facts.specs.Lists.{total, At, here, there, All}
 use Rattle.facts.specs.ListLaws.{found, at-length, all-at, total-at}
 use Rattle.facts.specs.Bytes.{Bytes}
-use Rattle.facts.specs.Partial.{Partial, above}
+use Rattle.facts.specs.Partial.{Partial, rest, above}
 use Rattle.facts.specs.PartialLaws.{inside-at}
 use Rattle.facts.specs.WellFormed.{Fits, Values, WfPartial}
-use Rattle.taskfile.specs.Task.{Edge, Node, Action, Task, WfNode}
+use Rattle.taskfile.specs.Task.{Edge, Node, Action, Task, WfNode, maxVariables, maxValues, maxNodes, maxWeight}
 use Rattle.taskfile.specs.TaskFile.{readTask, actionOf}
 use Rattle.taskfile.specs.DiagramReadLaws.{small-at}
 use Rattle.compilation.specs.Compile.{flat}
 use Rattle.compilation.specs.CompiledLaws.{AcceptedTask, task-accepted}
+use Rattle.compilation.specs.CompiledLengthLaws.{values-most}
 use Rattle.text.specs.Text.{decimal}
 use Rattle.text.specs.Append.{bytes}
 use Rattle.text.specs.PrintLaws.{digits-most}
@@ -39,7 +40,7 @@ mostText = 65536
 pub two : (n : ℕ) → n < 100 → length (decimal n) ≤ 2
 two n l = digits-most 1 n l
 
-pub five : (n : ℕ) → n ≤ 65535 → length (decimal n) ≤ 5
+pub five : (n : ℕ) → n ≤ maxWeight → length (decimal n) ≤ 5
 five n l = digits-most 4 n (omega arith)
 
 -- A row of texts of at most `a` bytes each, and `b` for each of their parts.
@@ -62,13 +63,14 @@ flat-each text a k xs h = omega (arith, flat-most text a 0 (λ x. 0) k xs (λ j 
 
 -- ---- partial states
 
-bit-most : (v b d : ℕ) (values : List ℕ) → v < 100 → d ≤ 100 → Fits b values d → length (bitText v b values) ≤ 6
+-- A fact has at most six bytes, and takes its value.
+bit-most : (v b d : ℕ) (values : List ℕ) → v < 100 → d ≤ 100 → Fits b values d → length (bitText v b values) + 6 * length (rest b values) ≤ 6 * length values
 bit-most v zero d values l m h = omega arith
 bit-most v (suc b) d [] l m h = absurd h
 bit-most v (suc b) d (x ∷ values) l m h = simp length-append (omega (arith, two v l, two x (omega arith)))
 
--- Where a variable has at most `most` values, a hundred at most, a fact has at most six bytes.
-facts-most : {most : ℕ} (sizes : List ℕ) (v : ℕ) (p : Partial) → most ≤ 100 → v + length sizes ≤ 100 → All (λ d. (2 ≤ d) × (d ≤ most)) sizes → Values p sizes → length (factsText (length sizes) v p) ≤ 6 * length sizes
+-- So there are six bytes for each value, where a variable has at most `most` of them, a hundred at most.
+facts-most : {most : ℕ} (sizes : List ℕ) (v : ℕ) (p : Partial) → most ≤ 100 → v + length sizes ≤ 100 → All (λ d. (2 ≤ d) × (d ≤ most)) sizes → Values p sizes → length (factsText (length sizes) v p) ≤ 6 * length (p .values)
 facts-most [] v p few l small h = omega arith
 facts-most (d ∷ sizes) v p few l small h =
     omega (
@@ -82,7 +84,7 @@ some-most : (b : ℕ) (facts : List ℕ) → length (someText b facts) ≤ 5 + l
 some-most zero facts = omega arith
 some-most (suc b) facts = omega arith
 
-pub partial-most : {most : ℕ} {sizes : List ℕ} {p : Partial} → most ≤ 100 → length sizes ≤ 100 → All (λ d. (2 ≤ d) × (d ≤ most)) sizes → WfPartial sizes p → length (partialText (length sizes) p) ≤ 5 + 6 * length sizes
+pub partial-most : {most : ℕ} {sizes : List ℕ} {p : Partial} → most ≤ 100 → length sizes ≤ 100 → All (λ d. (2 ≤ d) × (d ≤ most)) sizes → WfPartial sizes p → length (partialText (length sizes) p) ≤ 5 + 6 * length (p .values)
 unfolding partialText
 partial-most {sizes = sizes} {p = p} few l small w = omega (arith, some-most (p .map) (factsText (length sizes) 0 p), facts-most sizes 0 p few (omega arith) small (w .values))
 
@@ -99,7 +101,7 @@ target-most m target l = go (leb target m)
 pub variable-most : (v size value : ℕ) → v < 100 → size < 100 → value < 100 → length (variableText v size value) ≤ 40
 variable-most v size value l m k = simp length-append (omega (arith, two v l, two size m, two value k))
 
-edge-most : (m d : ℕ) (e : Edge) → d < 100 → e .target < 100 → e .weight ≤ 65535 → length (edgeText m d e) ≤ 40
+edge-most : (m d : ℕ) (e : Edge) → d < 100 → e .target < 100 → e .weight ≤ maxWeight → length (edgeText m d e) ≤ 40
 edge-most m d e l k w = simp length-append (omega (arith, two d l, five (e .weight) w, target-most m (e .target) k))
 
 -- ---- for Graphviz
@@ -111,24 +113,24 @@ also-most e d g l = go (alike e g)
     go true = omega (arith, two d l)
     go false = omega arith
 
--- an arrow with at most 8 values
-arrow-most : (a i d : ℕ) (e : Edge) (others : List ℕ) → a < 100 → i < 100 → d < 100 → e .target < 100 → e .weight ≤ 65535 → length others ≤ 24 → length (dotArrow a i d e others) ≤ 70
+-- an arrow with a value for each of its edges
+arrow-most : (a i d : ℕ) (e : Edge) (others : List ℕ) → a < 100 → i < 100 → d < 100 → e .target < 100 → e .weight ≤ maxWeight → length others ≤ 3 * maxValues → length (dotArrow a i d e others) ≤ 70
 arrow-most a i d e others la li ld k w o = simp length-append (omega (arith, two a la, two i li, two d ld, two (e .target) k, five (e .weight) w))
 
-same-most : (a i : ℕ) (edges : List Edge) (d : ℕ) (e : Edge) → length edges ≤ 8 → a < 100 → i < 100 → d < 8 → e .target < 100 → e .weight ≤ 65535 → length (dotEdge a i edges d e) ≤ 70
+same-most : (a i : ℕ) (edges : List Edge) (d : ℕ) (e : Edge) → length edges ≤ maxValues → a < 100 → i < 100 → d < maxValues → e .target < 100 → e .weight ≤ maxWeight → length (dotEdge a i edges d e) ≤ 70
 same-most a i edges d e few la li ld k w = go (isAmong e (take d edges))
   where
-    later : length (drop (suc d) edges) ≤ 8
+    later : length (drop (suc d) edges) ≤ maxValues
     later = omega (arith, length-drop (suc d) edges)
 
-    others : length (flat (alsoText e) (suc d) (drop (suc d) edges)) ≤ 24
+    others : length (flat (alsoText e) (suc d) (drop (suc d) edges)) ≤ 3 * maxValues
     others = omega (arith, later, flat-each (alsoText e) 3 (suc d) (drop (suc d) edges) (λ j q g o s. also-most e q g (omega (arith, at-length o, later))))
 
     go : (t : Bool) → length {A = ℕ} (elim t [ true ↦ [] | false ↦ dotArrow a i d e (flat (alsoText e) (suc d) (drop (suc d) edges)) ]) ≤ 70
     go true = omega arith
     go false = arrow-most a i d e (flat (alsoText e) (suc d) (drop (suc d) edges)) la li (omega arith) k w others
 
-entry-most : (a incoming : ℕ) → a < 100 → incoming ≤ 65535 → length (dotEntry a incoming) ≤ 80
+entry-most : (a incoming : ℕ) → a < 100 → incoming ≤ maxWeight → length (dotEntry a incoming) ≤ 80
 entry-most a incoming l w = simp length-append (omega (arith, two a l, two 1 (omega arith), five incoming w))
 
 terminal-most : (a i : ℕ) → a < 100 → i < 100 → length (dotEnd a i) ≤ 40
@@ -138,18 +140,18 @@ terminal-most a i l m = simp length-append (omega (arith, two a l, two i m))
 
 module _ {t : Task} (ok : AcceptedTask t) where
   -- what its numbers and counts are below
-  few-variables : length (t .sizes) ≤ 24
+  few-variables : length (t .sizes) ≤ maxVariables
   few-variables = ok .limits .variables
 
-  -- A partial state has at most 149 bytes.
-  state-most : {p : Partial} → WfPartial (t .sizes) p → length (partialText (length (t .sizes)) p) ≤ 149
-  state-most w = omega (arith, few-variables, partial-most {most = 8} (omega arith) (omega (arith, few-variables)) (ok .limits .sizes) w)
+  -- A partial state has at most a fact for each variable.
+  state-most : {p : Partial} → WfPartial (t .sizes) p → length (partialText (length (t .sizes)) p) ≤ 5 + 6 * maxVariables
+  state-most w = omega (arith, few-variables, values-most w, partial-most {most = maxValues} (omega arith) (omega (arith, few-variables)) (ok .limits .sizes) w)
 
   module _ {a : ℕ} {x : Action} (h : At (t .actions) a x) where
     pub number-small : a < 100
     number-small = omega (arith, at-length h, ok .limits .actions)
 
-    pub few-nodes : length (x .nodes) ≤ 64
+    pub few-nodes : length (x .nodes) ≤ maxNodes
     few-nodes = omega (arith, total-at (λ (x : Action). length (x .nodes)) h, ok .limits .nodes)
 
     module _ {j : ℕ} {nd : Node} (o : At (x .nodes) j nd) where
@@ -159,7 +161,7 @@ module _ {t : Task} (ok : AcceptedTask t) where
       pub variable-small : nd .var < 100
       variable-small = omega (arith, node-wf .var-below, few-variables)
 
-      pub few-edges : length (nd .edges) ≤ 8
+      pub few-edges : length (nd .edges) ≤ maxValues
       few-edges = omega (arith, node-wf .edge-count, small-at (t .sizes) (nd .var) (ok .limits .sizes) (node-wf .var-below))
 
       module _ {d : ℕ} {e : Edge} (u : At (nd .edges) d e) where
@@ -169,10 +171,10 @@ module _ {t : Task} (ok : AcceptedTask t) where
         target-small : e .target < 100
         target-small = omega (arith, node-wf .edges u .within, few-nodes)
 
-        pub weight-small : e .weight ≤ 65535
+        pub weight-small : e .weight ≤ maxWeight
         weight-small = ok .weights h .edges o u
 
-      -- The node: its edges have 8 times 40 bytes, or 8 times 70.
+      -- The node: its edges have 40 bytes each, or 70.
       node-most : (i m : ℕ) → i < 100 → length (nodeText m i nd) ≤ 350
       node-most i m l =
           let edges = flat-each (edgeText m) 40 0 (nd .edges) (λ d q e u s. edge-most m q e (omega (arith, value-small u)) (target-small u) (weight-small u)) in
@@ -218,7 +220,7 @@ module _ {t : Task} (ok : AcceptedTask t) where
   task-most =
       let names = flat-each (λ v size. variableText v size (getD (t .init) v 0)) 40 0 (t .sizes) (λ j q size o e.
       let below : q < length (t .sizes) = omega (arith, at-length o) in
-      let values = all-at (λ d. (2 ≤ d) × (d ≤ 8)) (ok .limits .sizes) o in
+      let values = all-at (λ d. (2 ≤ d) × (d ≤ maxValues)) (ok .limits .sizes) o in
       let value : getD (t .init) q 0 < 100 = omega (arith, inside-at (t .sizes) (t .init) q (ok .wf .init) below, small-at (t .sizes) q (ok .limits .sizes) below) in
       variable-most q size (getD (t .init) q 0) (omega (arith, few-variables)) (omega (arith, values)) value) in
       let actions = flat-most (actionText (length (t .sizes))) 400 350 (λ x. length (x .nodes)) 0 (t .actions) (λ j q x o e. let same : j ≡ q = omega arith in subst (λ (k : ℕ). length (actionText (length (t .sizes)) k x) ≤ 400 + 350 * length (x .nodes)) same (action-most o)) in
