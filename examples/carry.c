@@ -1,4 +1,4 @@
-/* Compiles a task file, carries a plan across to the probe file and back, compares the sums, and names the steps.
+/* Compiles a task file, carries a plan across to the probe file and back, compares the sums, and traces the steps.
  *
  *   rt staticlib jafrelin
  *   cc -Iinclude examples/carry.c target/staticlib/libjafrelin.a -o carry
@@ -13,7 +13,7 @@ static uint8_t task[JAFRELIN_TASK_MAX_BYTES + 1];
 static uint16_t plan[JAFRELIN_TASK_MAX_LIST + 1];
 static uint8_t probe[JAFRELIN_PROBE_MAX_WRITTEN];
 static uint16_t steps[JAFRELIN_PROBE_MAX_LIST], back[JAFRELIN_TASK_MAX_LIST];
-static uint8_t text[JAFRELIN_STEPS_MAX_BYTES];
+static uint8_t text[JAFRELIN_TRACE_MAX_BYTES];
 
 /* The result, if it is no refusal. */
 static uint64_t accepted(uint64_t result, enum jafrelin_subject subject)
@@ -44,9 +44,9 @@ int main(int argc, char **argv)
     size_t count = JAFRELIN_LENGTH(there);
     uint64_t followed = accepted(jafrelin_run_probe(probe, probe_len, steps, count), JAFRELIN_OF_LIST);
     uint64_t home = accepted(jafrelin_contract(task, task_len, steps, count, back, JAFRELIN_TASK_MAX_LIST), JAFRELIN_OF_CONTRACTED);
-    uint64_t names = accepted(jafrelin_name_steps(task, task_len, steps, count, text, sizeof text), JAFRELIN_OF_LIST);
+    uint64_t trace = accepted(jafrelin_trace(task, task_len, steps, count, 1, text, sizeof text), JAFRELIN_OF_LIST);
 
     printf("%zu bytes, %zu steps, sum %u\n", probe_len, count, (unsigned)JAFRELIN_SUM(there));
-    fwrite(text, 1, JAFRELIN_LENGTH(names), stdout);
+    fwrite(text, 1, JAFRELIN_LENGTH(trace), stdout);
     return JAFRELIN_SUM(there) != JAFRELIN_SUM(followed) || JAFRELIN_SUM(there) != JAFRELIN_SUM(home) || JAFRELIN_LENGTH(home) != actions;
 }

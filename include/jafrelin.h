@@ -65,9 +65,9 @@ enum jafrelin_refusal {
 #define JAFRELIN_PROBE_MAX_LIST 6656
 #define JAFRELIN_PROBE_MAX_WRITTEN 13846
 
-/* The most bytes of a task in words or its drawings, of the lines of a list, and of a sentence. No text ends with a zero byte. */
+/* The most bytes of a task in words or its drawings, of the trace of a list, and of a sentence. No text ends with a zero byte. */
 #define JAFRELIN_TEXT_MAX_BYTES 65536
-#define JAFRELIN_STEPS_MAX_BYTES 524288
+#define JAFRELIN_TRACE_MAX_BYTES 3145728
 #define JAFRELIN_SENTENCE_MAX_BYTES 256
 
 /* The stack that a function needs at most, in bytes, beside what memcpy and memset need; docs/PERFORMANCE.md says how it was measured. */
@@ -85,7 +85,7 @@ enum jafrelin_refusal {
 #define JAFRELIN_STACK_SHOW 4096
 #define JAFRELIN_STACK_DRAW 4096
 #define JAFRELIN_STACK_DRAW_ACTION 4096
-#define JAFRELIN_STACK_NAME_STEPS 4096
+#define JAFRELIN_STACK_TRACE 24576
 #define JAFRELIN_STACK_EXPLAIN 4096
 
 /* Whether a file is accepted. */
@@ -111,19 +111,19 @@ uint64_t jafrelin_compile(const uint8_t *file, size_t file_len, uint8_t *out, si
 uint64_t jafrelin_expand(const uint8_t *file, size_t file_len, const uint16_t *list, size_t list_len, uint16_t *out, size_t out_len);
 uint64_t jafrelin_contract(const uint8_t *file, size_t file_len, const uint16_t *list, size_t list_len, uint16_t *out, size_t out_len);
 
-/* The task in words; its cost diagrams for Graphviz, all of them or one action's; the steps of a probe list by name, a line each. Each is written to the front of a
- * buffer of out_len bytes. */
+/* The task in words; its cost diagrams for Graphviz, all of them or one action's; the trace of a probe list: each step by name, what it needs and sets, the first
+ * that does not apply, and the states unless `states` is 0. Each is written to the front of a buffer of out_len bytes. */
 uint64_t jafrelin_show(const uint8_t *file, size_t file_len, uint8_t *out, size_t out_len);
 uint64_t jafrelin_draw(const uint8_t *file, size_t file_len, uint8_t *out, size_t out_len);
 uint64_t jafrelin_draw_action(const uint8_t *file, size_t file_len, uint64_t action, uint8_t *out, size_t out_len);
-uint64_t jafrelin_name_steps(const uint8_t *file, size_t file_len, const uint16_t *list, size_t list_len, uint8_t *out, size_t out_len);
+uint64_t jafrelin_trace(const uint8_t *file, size_t file_len, const uint16_t *list, size_t list_len, uint64_t states, uint8_t *out, size_t out_len);
 
 /* What a refusal is about: the file, where checking it is refused; else what was handed in beside it. */
 enum jafrelin_subject {
     JAFRELIN_OF_FILE = 0,
     JAFRELIN_OF_STATE = 1,     /* a state, or the action that came with it */
     JAFRELIN_OF_SETS = 2,      /* a relaxed state, or the action that came with it */
-    JAFRELIN_OF_LIST = 3,      /* a list to be run, expanded or named */
+    JAFRELIN_OF_LIST = 3,      /* a list to be run, expanded or traced */
     JAFRELIN_OF_CONTRACTED = 4 /* a list to be contracted */
 };
 

@@ -12,7 +12,7 @@ enum { STACK = 1 << 18, PAINT = 0xa5 };
 static unsigned char stack[STACK] __attribute__((aligned(4096)));
 static ucontext_t here, there;
 
-static uint8_t text[JAFRELIN_STEPS_MAX_BYTES];
+static uint8_t text[JAFRELIN_TRACE_MAX_BYTES];
 static uint8_t task[JAFRELIN_TASK_MAX_BYTES + 1], probe[JAFRELIN_PROBE_MAX_WRITTEN];
 static uint8_t state[JAFRELIN_TASK_MAX_VARIABLES], sets[JAFRELIN_TASK_MAX_VARIABLES], probe_state[JAFRELIN_PROBE_MAX_VARIABLES];
 static uint16_t plan[JAFRELIN_TASK_MAX_LIST], back[JAFRELIN_TASK_MAX_LIST], list[JAFRELIN_PROBE_MAX_LIST];
@@ -32,7 +32,7 @@ static void contract(void) { jafrelin_contract(task, task_len, list, steps, back
 static void show(void) { jafrelin_show(task, task_len, text, sizeof text); }
 static void draw(void) { jafrelin_draw(task, task_len, text, sizeof text); }
 static void draw_action(void) { jafrelin_draw_action(task, task_len, 0, text, sizeof text); }
-static void name_steps(void) { jafrelin_name_steps(task, task_len, list, steps, text, sizeof text); }
+static void trace(void) { jafrelin_trace(task, task_len, list, steps, 1, text, sizeof text); }
 static void explain(void) { jafrelin_explain((uint64_t)JAFRELIN_SHORT << 56 | UINT32_MAX, JAFRELIN_OF_FILE, text, sizeof text); }
 static void nothing(void) {}
 
@@ -55,7 +55,7 @@ static struct {
     {"show", show, JAFRELIN_STACK_SHOW, 0},
     {"draw", draw, JAFRELIN_STACK_DRAW, 0},
     {"draw_action", draw_action, JAFRELIN_STACK_DRAW_ACTION, 0},
-    {"name_steps", name_steps, JAFRELIN_STACK_NAME_STEPS, 0},
+    {"trace", trace, JAFRELIN_STACK_TRACE, 0},
     {"explain", explain, JAFRELIN_STACK_EXPLAIN, 0},
 };
 

@@ -1,14 +1,16 @@
-/* The texts of a task file: in words, all of its cost diagrams, and that of action 0; each in a buffer that is just long enough, after one that is too short. */
+/* The texts of a task file: in words, all of its cost diagrams, that of action 0, and the trace of the list 0 1 2; each in a buffer that is just long enough, after one that is too short. */
 #include <jafrelin.h>
 #include <stdio.h>
 #include <string.h>
 
 static uint8_t task[JAFRELIN_TASK_MAX_BYTES + 1], text[JAFRELIN_TEXT_MAX_BYTES];
+static const uint16_t list[] = {0, 1, 2};
 static size_t task_len;
 
 static uint64_t show(size_t room) { return jafrelin_show(task, task_len, text, room); }
 static uint64_t draw(size_t room) { return jafrelin_draw(task, task_len, text, room); }
 static uint64_t draw_action(size_t room) { return jafrelin_draw_action(task, task_len, 0, text, room); }
+static uint64_t trace(size_t room) { return jafrelin_trace(task, task_len, list, 3, 0, text, room); }
 
 /* A refusal has the length needed, and leaves the buffer as it was. */
 static int put(uint64_t (*write)(size_t))
@@ -30,5 +32,5 @@ int main(int argc, char **argv)
         return 2;
     task_len = fread(task, 1, sizeof task, in);
     fclose(in);
-    return put(show) || put(draw) || put(draw_action);
+    return put(show) || put(draw) || put(draw_action) || put(trace);
 }

@@ -20,7 +20,7 @@ pub record RefusalsWriteNothing : Type 0 where
   pub compiling : (f : List ℕ) → Untouched (λ out. compileFile f (length out)) (compiledBuffer f)
   pub expanding : (f list : List ℕ) → Untouched (λ out. answerIn (length out) (expanded f list)) (λ out. bufferIn out (expanded f list))
   pub contracting : (f list : List ℕ) → Untouched (λ out. answerIn (length out) (contracted f list)) (λ out. bufferIn out (contracted f list))
-  -- whatever the text: a file in words, its drawings, the steps of a list, why it is no plan, a sentence for a refusal
+  -- whatever the text: a file in words, its drawings, the trace of a list, why it is no plan, a sentence for a refusal
   pub texts : (text : Read (List ℕ)) → Untouched (λ out. lengthIn (length out) text) (λ out. writtenIn out text)
 
 -- ---- the proofs

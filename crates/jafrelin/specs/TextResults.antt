@@ -18,8 +18,8 @@ use Rattle.carry.specs.SameSumLaws.{fits-inv}
 use Rattle.words.specs.DescribeFile.{shown, drawn, drawnAction}
 use Rattle.words.specs.LengthLaws.{accepted-same, shown-most, drawn-most, drawn-action-most}
 use Rattle.steps.specs.Steps.{Named, namesOf, checkSteps}
-use Rattle.steps.specs.NamedFile.{named}
-use Rattle.steps.specs.LengthLaws.{mostLines, named-most}
+use Rattle.trace.specs.TraceFile.{traced}
+use Rattle.trace.specs.LengthLaws.{mostTrace, traced-most}
 use Rattle.sentence.specs.Sentence.{subjectOf, sentence}
 use Rattle.sentence.specs.SentenceLaws.{sentence-most}
 use Rattle.cases.specs.Numbers.{numbers-of-files}
@@ -34,13 +34,13 @@ pub record TextResults (f : List ℕ) : Type 0 where
   pub show : (room : ℕ) → unpackedLength (packedLength (lengthIn room (shown f))) ≡ lengthIn room (shown f)
   pub draw : (room : ℕ) → unpackedLength (packedLength (lengthIn room (drawn f))) ≡ lengthIn room (drawn f)
   pub draw-action : (a room : ℕ) → unpackedLength (packedLength (lengthIn room (drawnAction f a))) ≡ lengthIn room (drawnAction f a)
-  pub name-steps : (list : List ℕ) (room : ℕ) → unpackedLength (packedLength (lengthIn room (named f list))) ≡ lengthIn room (named f list)
+  pub trace : (states : Bool) (list : List ℕ) (room : ℕ) → unpackedLength (packedLength (lengthIn room (traced states f list))) ≡ lengthIn room (traced states f list)
 
--- ---- refusals that have a number, at a place of at most 524,288
+-- ---- refusals that have a number, at a place of at most so many bytes
 
 data Fair {X : Type 0} : Read X → Type 0 where
   given : {x : X} → Fair (accepted x)
-  turned : {n p : ℕ} → 1 ≤ n → p ≤ mostLines → Fair (refused n p)
+  turned : {n p : ℕ} → 1 ≤ n → p ≤ mostTrace → Fair (refused n p)
 
 then-fair : {X Y : Type 0} {m : Read X} (k : X → Read Y) → Fair m → ((x : X) → m ≡ accepted x → Fair (k x)) → Fair (_>>=_ m k)
 then-fair k (given {x = x}) on = on x refl
@@ -51,7 +51,7 @@ with-fair g given = given
 with-fair g (turned l q) = turned l q
 
 -- A text that is at most so long comes back, and so does its refusal.
-text-back : (room : ℕ) {r : Read (List ℕ)} → Fair r → ((text : List ℕ) → r ≡ accepted text → length text ≤ mostLines) → unpackedLength (packedLength (lengthIn room r)) ≡ lengthIn room r
+text-back : (room : ℕ) {r : Read (List ℕ)} → Fair r → ((text : List ℕ) → r ≡ accepted text → length text ≤ mostTrace) → unpackedLength (packedLength (lengthIn room r)) ≡ lengthIn room r
 unfolding lengthIn
 text-back room (given {x = text}) most = go (leb (length text) room)
   where
@@ -63,7 +63,7 @@ text-back room (turned {n = n} {p = p} l q) most = refusal-comes n p l (omega ar
 -- ---- the operations
 
 -- What is refused by places and numbers that are known.
-fair-by : {X : Type 0} {most : ℕ} {r : Read X} → Placed most r → most ≤ mostLines → ((n p : ℕ) → r ≡ refused n p → 1 ≤ n) → Fair r
+fair-by : {X : Type 0} {most : ℕ} {r : Read X} → Placed most r → most ≤ mostTrace → ((n p : ℕ) → r ≡ refused n p → 1 ≤ n) → Fair r
 fair-by (value g) l named = given
 fair-by (place {n = n} {p = p} q) l named = turned {n = n} {p = p} (named n p refl) (omega arith)
 
@@ -87,7 +87,7 @@ list-fair list = go (leb (length list) maxList)
     go true = given
     go false = turned {n = 8} {p = maxList} (omega arith) (omega arith)
 
-steps-fair : (names : List Named) (i : ℕ) (list : List ℕ) → i + length list ≤ mostLines → Fair (checkSteps names i list)
+steps-fair : (names : List Named) (i : ℕ) (list : List ℕ) → i + length list ≤ mostTrace → Fair (checkSteps names i list)
 steps-fair names i [] l = given
 steps-fair names i (k ∷ list) l = go (getElem? names k) (steps-fair names (suc i) list (omega arith))
   where
@@ -108,20 +108,20 @@ module _ (f : List ℕ) where
   unfolding drawnAction
   action-drawn-fair a = then-fair _ (file-fair f) (λ t e. then-fair _ (action-fair (t .actions) a) (λ x o. given))
 
-  named-fair : (list : List ℕ) → Fair (named f list)
-  unfolding named
-  named-fair list = then-fair _ (file-fair f) (λ t e. then-fair _ (list-fair list) (λ u h. then-fair _ (steps-fair (namesOf t) 0 list (omega (arith, fits-inv maxList list h))) (λ v o. given)))
+  traced-fair : (states : Bool) (list : List ℕ) → Fair (traced states f list)
+  unfolding traced
+  traced-fair states list = then-fair _ (file-fair f) (λ t e. then-fair _ (list-fair list) (λ u h. then-fair _ (steps-fair (namesOf t) 0 list (omega (arith, fits-inv maxList list h))) (λ v o. given)))
 
 pub text-results : (f : List ℕ) → Bytes f → TextResults f
 text-results f bytes = record {
   show = λ room. text-back room (shown-fair f) (λ text h. omega (arith, shown-most f bytes h));
   draw = λ room. text-back room (drawn-fair f) (λ text h. omega (arith, drawn-most f bytes h));
   draw-action = λ a room. text-back room (action-drawn-fair f a) (λ text h. omega (arith, drawn-action-most f bytes a h));
-  name-steps = λ list room. text-back room (named-fair f list) (λ text h. named-most f list bytes h);
+  trace = λ states list room. text-back room (traced-fair f states list) (λ text h. traced-most states f list bytes h);
 }
 
 -- The same of a sentence.
 pub explain-result : (subject w room : ℕ)
     → unpackedLength (packedLength (lengthIn room (accepted (sentence (subjectOf subject) (refusalOf w) (placeOf w))))) ≡ lengthIn room (accepted (sentence (subjectOf subject) (refusalOf w) (placeOf w)))
 explain-result subject w room =
-    text-back room given (λ text h. subst (λ (xs : List ℕ). length xs ≤ mostLines) (accepted-same h) (omega (arith, sentence-most (subjectOf subject) (refusalOf w) (placeOf w) (omega arith))))
+    text-back room given (λ text h. subst (λ (xs : List ℕ). length xs ≤ mostTrace) (accepted-same h) (omega (arith, sentence-most (subjectOf subject) (refusalOf w) (placeOf w) (omega arith))))

@@ -1,5 +1,6 @@
 // The operations as C functions, for the static library; include/jafrelin.h declares them. A slice is a pointer and a length.
 ghost use mathlib.Core.Path.{_≡_};
+ghost use lib.Dec.{ltb};
 ghost use lib.ListN.{length};
 ghost use Rattle.facts.specs.Read.{accepted};
 ghost use Rattle.facts.specs.Write.{lengthIn, writtenIn};
@@ -11,7 +12,7 @@ ghost use Rattle.probe_estimate.specs.Estimate.{estimateProbe};
 ghost use Rattle.compilation.specs.CompileFile.{compileFile, compiledBuffer};
 ghost use Rattle.carry.specs.CarryFile.{expanded, contracted, answerIn, bufferIn};
 ghost use Rattle.words.specs.DescribeFile.{shown, drawn, drawnAction};
-ghost use Rattle.steps.specs.NamedFile.{named};
+ghost use Rattle.trace.specs.TraceFile.{traced};
 ghost use Rattle.sentence.specs.Sentence.{subjectOf, sentence};
 ghost use Rattle.packing.specs.Packing.{packedCheck, packedSum, packedLength, packedList, packedEstimate, refusalOf, placeOf};
 
@@ -133,13 +134,13 @@ pub extern "C" fn jafrelin_draw_action(file: &[u8], action: u64, out: &mut [u8])
     packing::described(draw::draw_action(file, action as usize, out))
 }
 
-// The steps of a list by name, a line each, written into a buffer.
+// The trace of a list of steps, with the states unless `states` is 0, written into a buffer.
 #[no_mangle]
-pub extern "C" fn jafrelin_name_steps(file: &[u8], list: &[u16], out: &mut [u8]) -> u64
-    ensures { λ r. ⌜ r ≡ packedLength (lengthIn (length (now (out .entry))) (named (now (file .entry)) (now (list .entry)))) ⌝ }
-    ensures { λ r. ⌜ now (out .exit) ≡ writtenIn (now (out .entry)) (named (now (file .entry)) (now (list .entry))) ⌝ }
+pub extern "C" fn jafrelin_trace(file: &[u8], list: &[u16], states: u64, out: &mut [u8]) -> u64
+    ensures { λ r. ⌜ r ≡ packedLength (lengthIn (length (now (out .entry))) (traced (ltb 0 states) (now (file .entry)) (now (list .entry)))) ⌝ }
+    ensures { λ r. ⌜ now (out .exit) ≡ writtenIn (now (out .entry)) (traced (ltb 0 states) (now (file .entry)) (now (list .entry))) ⌝ }
 {
-    packing::described(steps::name_steps(file, list, out))
+    packing::described(trace::trace(file, list, 0 < states, out))
 }
 
 // The sentence for the refusal in a result, about what `about` names, written into a buffer.

@@ -1,19 +1,20 @@
--- The steps of task P of document 01, and of a task of two variables and two actions.
+-- The steps of task P of document 01.
 use mathlib.Core.Path.{_≡_, refl}
 use mathlib.Core.List.{[], _∷_}
 use Rattle.facts.specs.Read.{refused}
 use Rattle.text.specs.Text.{decimal}
 use Rattle.text.specs.Append.{bytes}
-use Rattle.words.specs.Examples.{taskP, taskTwo}
-use Rattle.steps.specs.Steps.{namesOf, linesFrom, checkSteps}
+use Rattle.words.specs.Examples.{taskP}
+use Rattle.steps.specs.Steps.{start, node, end, namesOf, nameText, checkSteps}
 
-lines : linesFrom (namesOf taskP) 0 (0 ∷ 1 ∷ 3 ∷ []) ≡ bytes "0 start of action 0: cost 3, sum 3\n1 action 0, node 1 at variable 0 = 0: cost 5, sum 8\n3 end of action 0: cost 0, sum 8\n"
-unfolding namesOf decimal
-lines = refl
+-- each with its cost
+names : namesOf taskP ≡ record { name = start 0; cost = 3 } ∷ record { name = node 0 1 0 0; cost = 5 } ∷ record { name = node 0 1 0 1; cost = 0 } ∷ record { name = end 0; cost = 0 } ∷ []
+unfolding namesOf
+names = refl
 
-two-lines : linesFrom (namesOf taskTwo) 0 (0 ∷ 1 ∷ 5 ∷ 6 ∷ 7 ∷ 10 ∷ 11 ∷ []) ≡ bytes "0 start of action 0: cost 3, sum 3\n1 action 0, node 1 at variable 0 = 0: cost 5, sum 8\n5 action 0, node 2 at variable 1 = 2: cost 7, sum 15\n6 end of action 0: cost 0, sum 15\n7 start of action 1: cost 10, sum 25\n10 action 1, node 1 at variable 1 = 2: cost 12, sum 37\n11 end of action 1: cost 0, sum 37\n"
-unfolding namesOf decimal
-two-lines = refl
+in-words : nameText (node 10 1 0 2) ≡ bytes "action 10, node 1 at variable 0 = 2"
+unfolding decimal
+in-words = refl
 
 no-step : checkSteps (namesOf taskP) 0 (0 ∷ 4 ∷ []) ≡ refused 11 1
 unfolding namesOf

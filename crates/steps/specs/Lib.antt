@@ -1,6 +1,5 @@
 -- Definitions.
 pub mod Steps
-pub mod NamedFile
 pub mod Seek
 -- Laws.
 pub mod SeekLaws

@@ -1,6 +1,6 @@
--- The steps of a probe list by name, each with its cost and the sum up to it.
+-- The steps of the probe file written from a task, by name.
 use mathlib.Core.Option.{none, some}
-use Prim.Native.Nat.{ℕ, suc, _+_}
+use Prim.Native.Nat.{ℕ, suc}
 use mathlib.Core.List.{List, [], _∷_, _++_}
 use lib.ListN.{getElem?}
 use Rattle.facts.specs.Read.{Read, accepted, refused}
@@ -35,22 +35,6 @@ abbrev pub nameText : StepName → List ℕ
 nameText (start a) = bytes "start of action " ++ decimal a
 nameText (node a i v d) = bytes "action " ++ (decimal a ++ (bytes ", node " ++ (decimal i ++ (bytes " at variable " ++ (decimal v ++ (bytes " = " ++ decimal d))))))
 nameText (end a) = bytes "end of action " ++ decimal a
-
--- step number k, with its cost and the sum up to it
-abbrev pub lineText : ℕ → Named → ℕ → List ℕ
-lineText k x sum = decimal k ++ (bytes " " ++ (nameText (x .name) ++ (bytes ": cost " ++ (decimal (x .cost) ++ (bytes ", sum " ++ (decimal sum ++ bytes "\n"))))))
-
--- step number k: what it costs, and its line, with the sum before it; nothing where there is none
-abbrev pub costAt : List Named → ℕ → ℕ
-costAt names k = elim (getElem? names k) [ none ↦ 0 | some x ↦ x .cost ]
-
-abbrev pub entryText : List Named → ℕ → ℕ → List ℕ
-entryText names k sum = elim (getElem? names k) [ none ↦ [] | some x ↦ lineText k x (sum + x .cost) ]
-
--- the lines of a list, with the sum before it
-abbrev pub linesFrom : List Named → ℕ → List ℕ → List ℕ
-linesFrom names sum [] = []
-linesFrom names sum (k ∷ list) = entryText names k sum ++ linesFrom names (sum + costAt names k) list
 
 -- each number of a list is a step's, else 11 at its index; the first has the index i
 abbrev pub checkSteps : List Named → ℕ → List ℕ → Read (Unit {0})

@@ -1,4 +1,6 @@
 // Steps found by number: an action has its start, an edge for each value of each node's variable, and its end.
+use facts::Checked;
+use facts::Refusal;
 use facts::number::byte_at;
 use facts::number::offset_at;
 use walk::diagram_at;
@@ -6,9 +8,10 @@ use walk::edge_for;
 use walk::own_nodes;
 ghost use mathlib.Core.Path.{_≡_};
 ghost use Prim.Native.Nat.{_+_};
+ghost use Rattle.facts.specs.Answers.{checkedAnswer};
 ghost use Rattle.taskfile.specs.PartsInPlace.{nodeIn, actionIn};
 ghost use Rattle.words.specs.Rows.{rowFrom, nodeFor};
-ghost use Rattle.steps.specs.Steps.{nodeNames, actionNames};
+ghost use Rattle.steps.specs.Steps.{nodeNames, actionNames, checkSteps};
 ghost use Rattle.steps.specs.Seek.{seek, soughtAnswer, namesIn};
 
 // What a step is: the start of an action, its node i passed with the value d of variable v, or its end.
@@ -43,6 +46,24 @@ pub fn find_step(file: &[u8], sizes: &[u8], count: usize, row: &[usize], k: usiz
         a += 1;
     }
     Sought::Past(left)
+}
+
+// Whether each number of a list is a step's: 11 at the first index where it is not.
+pub fn check_steps(file: &[u8], sizes: &[u8], count: usize, row: &[usize], list: &[u16]) -> Checked
+    ensures { λ r. ⌜ checkedAnswer r ≡ checkSteps (namesIn (now (file .entry)) (now (sizes .entry)) count (now (row .entry))) 0 (now (list .entry)) ⌝ }
+{
+    let mut i: usize = 0;
+    while i < list.len() {
+        match find_step(file, sizes, count, row, list[i] as usize) {
+            Sought::Past(_) => {
+                return Checked::Refused(Refusal::Missing(i));
+            }
+            Sought::Found(_, _) => {
+                i += 1;
+            }
+        }
+    }
+    Checked::Accepted
 }
 
 // Step number k of action a, at an offset, whose own nodes begin at the offsets `nodes`.

@@ -8,12 +8,12 @@ use console::output::reply;
 use report::Subject;
 use words::Described;
 
-// The most bytes of a task in words and of its diagrams, of a probe file in words, and of the steps of a list: more than any has.
+// The most bytes of a task in words and of its diagrams, of a probe file in words, and of the trace of a list: more than any has.
 const TASK_TEXT: usize = 65536;
 
 const PROBE_TEXT: usize = 524288;
 
-const STEPS_TEXT: usize = 524288;
+const TRACE_TEXT: usize = 3145728;
 
 // A text that was written into a buffer, or the refusal.
 fn described(answer: Described, text: &[u8], subject: Subject, asked: Asked) {
@@ -60,9 +60,9 @@ fn draw_action(file: &[u8], next: usize, asked: Asked) {
     described(answer, &text, Subject::State, asked);
 }
 
-// `steps TASK LIST`: each step of a probe list by name.
+// `steps TASK LIST`: the trace of a probe list.
 pub fn steps(file: &[u8], list: &[u16], asked: Asked) {
-    let mut text = [0; STEPS_TEXT];
-    let answer = steps::name_steps(file, list, &mut text);
+    let mut text = [0; TRACE_TEXT];
+    let answer = trace::trace(file, list, asked.states, &mut text);
     described(answer, &text, Subject::List, asked);
 }
