@@ -1,10 +1,10 @@
 -- Laws that the compiling program rests on: its buffer always has room, and reading no more than 3,827 bytes loses nothing.
-use mathlib.Core.Path.{_≡_, ap, subst}
+use mathlib.Core.Path.{_≡_, sym, ap, subst, _∙_}
 use Prim.Native.Nat.{ℕ, suc, _≤_}
 use mathlib.Core.List.{List}
 use lib.ListN.{length, take}
-use Rattle.facts.specs.Read.{accepted, withValue}
-use Rattle.facts.specs.ReadLaws.{made}
+use Rattle.facts.specs.Read.{accepted, refused, withValue}
+use Rattle.facts.specs.ReadLaws.{made, not-made}
 use Rattle.facts.specs.Write.{lengthIn, writtenIn}
 use Rattle.facts.specs.WriteLaws.{length-inv, all-fit}
 use Rattle.taskfile.specs.Task.{Task, maxBytes, maxWritten}
@@ -38,3 +38,7 @@ file-most f h = let m = made (λ (t : Task). writeProbe (probeOf t)) (readTask f
 -- With room for 13,846 bytes there is no refusal but the file's own.
 pub always-room : (f : List ℕ) → compileFile f maxWritten ≡ withValue length (probeFileOf f)
 always-room f = all-fit (probeFileOf f) maxWritten (λ bytes h. file-most f h)
+
+pub not-compiled : (f : List ℕ) {n p : ℕ} → compileFile f maxWritten ≡ refused n p → readTask f ≡ refused n p
+unfolding probeFileOf
+not-compiled f h = not-made (λ (t : Task). writeProbe (probeOf t)) (readTask f) (not-made length (probeFileOf f) (sym (always-room f) ∙ h))

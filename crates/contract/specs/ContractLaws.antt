@@ -17,10 +17,10 @@ use Rattle.taskfile.specs.TaskFile.{readTask, checkTask}
 use Rattle.taskfile.specs.TaskReadLaws.{task-limits}
 use Rattle.probefile.specs.Probe.{probeSum}
 use Rattle.probefile.specs.Probe.{maxList as maxProbeList}
-use Rattle.probefile.specs.ProbeFile.{writeProbe, runProbe}
+use Rattle.probefile.specs.ProbeFile.{runProbe}
 use Rattle.compilation.specs.Compile.{probeOf}
-use Rattle.compilation.specs.CompileFile.{probeFileOf, compileFile}
-use Rattle.compilation.specs.ProgramLaws.{always-room}
+use Rattle.compilation.specs.CompileFile.{compileFile}
+use Rattle.compilation.specs.ProgramLaws.{not-compiled}
 use Rattle.plans.specs.Carry.{startedBy, contractOf, contract}
 use Rattle.plans.specs.Contract.{contract-start, contract-other}
 use Rattle.facts.specs.WriteRowLaws.{Cut}
@@ -143,8 +143,8 @@ contract-no-file f list h = rw (not-made (λ (t : Task). tt) (readTask f) h)
 
 -- A refused task file.
 pub contract-refused : (f list : List ℕ) {n p : ℕ} → compileFile f maxWritten ≡ refused n p → contracted f list ≡ refused n p
-unfolding contracted probeFileOf
-contract-refused f list h = rw (not-made (λ (t : Task). writeProbe (probeOf t)) (readTask f) (not-made length (probeFileOf f) (sym (always-room f) ∙ h)))
+unfolding contracted
+contract-refused f list h = rw (not-compiled f h)
 
 module _ {f written : List ℕ} (w : WrittenFrom f written) (list : List ℕ) where
   -- what is answered once its sum is known

@@ -14,12 +14,12 @@ use Rattle.taskfile.specs.TaskFile.{readTask, checkTask}
 use Rattle.taskfile.specs.Index.{Ready}
 use Rattle.taskfile.specs.AnswerLaws.{there}
 use Rattle.probefile.specs.Probe.{Probe, maxList}
-use Rattle.probefile.specs.ProbeFile.{readProbe, writeProbe}
+use Rattle.probefile.specs.ProbeFile.{readProbe}
 use Rattle.probefile.specs.InPlace.{probeAt, Located}
 use Rattle.probefile.specs.IndexLaws.{not-read, accepted-probe, starts}
 use Rattle.compilation.specs.Compile.{probeOf}
 use Rattle.compilation.specs.CompileFile.{compileFile}
-use Rattle.compilation.specs.ProgramLaws.{always-room}
+use Rattle.compilation.specs.ProgramLaws.{not-compiled}
 use Rattle.text.specs.Append.{bytes}
 use Rattle.carry.specs.SameSumLaws.{WrittenFrom}
 use Rattle.steps.specs.Steps.{Named, namesOf, checkSteps}
@@ -50,7 +50,7 @@ module _ (states : Bool) (f list : List ℕ) where
   -- The same of a task that is not compiled.
   pub trace-uncompiled : {n p : ℕ} → compileFile f maxWritten ≡ refused n p → traced states f list ≡ refused n p
   unfolding traced
-  trace-uncompiled h = rw (not-made (λ (t : Task). length (writeProbe (probeOf t))) (readTask f) (sym (always-room f) ∙ h))
+  trace-uncompiled h = rw (not-compiled f h)
 
   -- the task of an accepted file with this index
   module _ {n count : ℕ} {row : List ℕ} (ready : Ready f n count row) where
