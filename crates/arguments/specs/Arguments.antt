@@ -10,7 +10,7 @@ use Rattle.arguments.specs.declared.Shape.{Shape}
 use Rattle.arguments.specs.declared.Fit.{Fit}
 use Rattle.arguments.specs.declared.Fit.the-variants.{Fits, Missing, Many}
 use Rattle.arguments.specs.declared.Wrong.{Wrong}
-use Rattle.arguments.specs.declared.Wrong.the-variants.{Option, Missing as NotGiven, Many as TooMany, Twice}
+use Rattle.arguments.specs.declared.Wrong.the-variants.{Option, Missing as NotGiven, Long, Many as TooMany, Twice}
 
 -- ---- how many there have to be
 
@@ -39,6 +39,7 @@ nameText ListName = bytes "LIST"
 abbrev pub whatText : List ℕ → Wrong → List ℕ
 whatText word Option = bytes "there is no option " ++ word
 whatText word (NotGiven name) = nameText name ++ bytes " is missing"
+whatText word (Long name) = nameText name ++ bytes " is too long"
 whatText word TooMany = word ++ bytes " is one argument too many"
 whatText word (Twice name other) = nameText name ++ (bytes " and " ++ (nameText other ++ bytes " are both standard input"))
 

@@ -6,7 +6,7 @@ use Rattle.text.specs.Append.{bytes}
 use Rattle.arguments.specs.declared.Name.the-variants.{Task, Action, State}
 use Rattle.arguments.specs.declared.Shape.{Shape}
 use Rattle.arguments.specs.declared.Fit.the-variants.{Fits, Missing, Many}
-use Rattle.arguments.specs.declared.Wrong.the-variants.{Option, Missing as NotGiven, Many as TooMany, Twice}
+use Rattle.arguments.specs.declared.Wrong.the-variants.{Option, Missing as NotGiven, Long, Many as TooMany, Twice}
 use Rattle.arguments.specs.Arguments.{fitOf, wrongText, hintText}
 
 abbrev cost : Shape
@@ -31,6 +31,9 @@ of-four = refl
 -- what is said
 missing : wrongText (bytes "cost") [] (NotGiven Action) ≡ bytes "jafrelin: ACTION is missing; see jafrelin cost --help\n"
 missing = refl
+
+long : wrongText (bytes "cost") [] (Long Task) ≡ bytes "jafrelin: TASK is too long; see jafrelin cost --help\n"
+long = refl
 
 many : wrongText (bytes "cost") (bytes "more") TooMany ≡ bytes "jafrelin: more is one argument too many; see jafrelin cost --help\n"
 many = refl

@@ -34,10 +34,11 @@ pub enum Fit {
     Many,
 }
 
-// What is wrong with a command line: an option that there is not, an argument that is missing or one too many, two that are both standard input.
+// What is wrong with a command line: an option that there is not, an argument that is missing, longer than a name can be or one too many, two that are both standard input.
 pub enum Wrong {
     Option,
     Missing(Name),
+    Long(Name),
     Many,
     Twice(Name, Name),
 }

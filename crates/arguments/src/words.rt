@@ -34,6 +34,10 @@ fn put_what(out: &mut [u8], at: usize, word: &[u8], why: Wrong) -> usize
             let first = put_name(out, at, name);
             append(out, first, b" is missing")
         }
+        Wrong::Long(name) => {
+            let first = put_name(out, at, name);
+            append(out, first, b" is too long")
+        }
         Wrong::Many => {
             let first = append(out, at, word);
             append(out, first, b" is one argument too many")

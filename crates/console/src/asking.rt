@@ -6,12 +6,14 @@ use crate::command::shape_of;
 use crate::command::takes_either;
 use crate::command::text_of;
 use crate::input::is_input;
+use crate::input::is_long;
 use crate::input::is_probe_name;
 use crate::input::is_word;
 use crate::output::complain;
 use arguments::Fit;
 use arguments::Wrong;
 use arguments::fit_of;
+use arguments::name_at;
 ghost use Prim.Native.Nat.{_≤_};
 
 // The command, the number of its first argument, whether refusals are explained and states shown, whether the file is a probe file, and where a refusal goes; or not, and what is wrong was said.
@@ -157,7 +159,7 @@ fn count_behind(behind: u8) -> usize {
     all - first
 }
 
-// Whether there are as many arguments as a command takes, and no two of them are standard input; if not, what is wrong is said.
+// Whether there are as many arguments as a command takes, none too long, and no two of them standard input; if not, what is wrong is said.
 fn fits(command: Command, behind: u8) -> bool {
     let count = count_behind(behind);
     let shape = shape_of(command, count);
@@ -171,6 +173,11 @@ fn fits(command: Command, behind: u8) -> bool {
             false
         }
         Fit::Fits => {
+            let long = long_word(behind);
+            if long < 3 {
+                complain(0, Wrong::Long(name_at(shape, long)));
+                return false;
+            }
             if reads_twice(command, behind) {
                 let file = shape.first;
                 let text = shape.third;
@@ -180,6 +187,21 @@ fn fits(command: Command, behind: u8) -> bool {
             true
         }
     }
+}
+
+// Which of the three arguments behind number `behind` is longer than a name can be, from 0 on; 3 if none is.
+fn long_word(behind: u8) -> usize {
+    let first = behind as usize + 1;
+    if is_long(first) {
+        return 0;
+    }
+    if is_long(first + 1) {
+        return 1;
+    }
+    if is_long(first + 2) {
+        return 2;
+    }
+    3
 }
 
 // The number of the last argument.

@@ -37,6 +37,13 @@ pub fn is_given(i: usize) -> bool {
     i < os::arg_count()
 }
 
+// Whether argument i is longer than a name can be.
+pub fn is_long(i: usize) -> bool {
+    let mut name = io::buffer();
+    os::arg(i, &mut name);
+    os::errno() == libc::ENAMETOOLONG
+}
+
 // Whether argument i is standard input: `-`, or left out.
 pub fn is_input(i: usize) -> bool {
     !is_given(i) || is_word(i, b"-")
@@ -53,7 +60,7 @@ pub fn is_probe_name(i: usize) -> bool {
     check::same(&name[from..length], b".probe")
 }
 
-// The name of what argument i stands for, at the front of a buffer. Errno is left as by `os::arg`.
+// The name of what argument i stands for, at the front of a buffer.
 pub fn name_of(i: usize, name: &mut [u8]) -> usize
     ensures { λ r. ⌜ Counts r (now (name .exit)) ⌝ }
 {
@@ -65,26 +72,12 @@ pub fn name_of(i: usize, name: &mut [u8]) -> usize
     length
 }
 
-// The bytes of the file that argument i names, as many as there is room for.
+// The bytes of the file that argument i names, as many as there is room for. What is wrong is said.
 pub fn read_file(i: usize, buf: &mut [u8]) -> Given
-    ensures { λ r. ⌜ Counts (r .length) (now (buf .exit)) ⌝ }
-{
-    read_as(b"FILE", i, buf)
-}
-
-// The same with a word for a name that is too long. What is wrong is said.
-fn read_as(word: &[u8], i: usize, buf: &mut [u8]) -> Given
     ensures { λ r. ⌜ Counts (r .length) (now (buf .exit)) ⌝ }
 {
     let mut space = io::buffer();
     let length = name_of(i, &mut space);
-    if os::errno() == libc::ENAMETOOLONG {
-        os::fail(word);
-        return Given {
-            ok: false,
-            length: 0,
-        };
-    }
     let name = &space[..length];
     read_from(open(i, name), name, buf)
 }
@@ -126,7 +119,7 @@ fn read_from(fd: i32, name: &[u8], buf: &mut [u8]) -> Given
 fn read_text(i: usize, text: &mut [u8]) -> Given
     ensures { λ r. ⌜ Counts (r .length) (now (text .exit)) ⌝ }
 {
-    let given = read_as(b"TEXT", i, text);
+    let given = read_file(i, text);
     if given.length == TEXT {
         wrong_text(i, Fault::Long(TEXT - 1));
         return Given {

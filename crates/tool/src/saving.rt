@@ -13,10 +13,6 @@ pub fn save(i: usize, bytes: &[u8]) {
     if os::errno() == libc::EINVAL {
         return reply(bytes, bytes.len());
     }
-    if os::errno() == libc::ENAMETOOLONG {
-        os::fail(b"PROBE");
-        return failed();
-    }
     if check::same(&name[..length], b"-") {
         return reply(bytes, bytes.len());
     }
