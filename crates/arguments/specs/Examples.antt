@@ -1,13 +1,15 @@
--- Command lines of `cost TASK ACTION STATE`, where the state may be left out, and what is said of wrong ones.
+-- Command lines of `cost TASK ACTION STATE`, where the state may be left out, what is said of wrong ones, and words by number.
 use mathlib.Core.Path.{_≡_, refl}
 use mathlib.Core.Bool.{true, false}
-use mathlib.Core.List.{[]}
+use Prim.Native.Nat.{ℕ}
+use mathlib.Core.List.{List, []}
 use Rattle.text.specs.Append.{bytes}
 use Rattle.arguments.specs.declared.Name.the-variants.{Task, Action, State}
 use Rattle.arguments.specs.declared.Shape.{Shape}
 use Rattle.arguments.specs.declared.Fit.the-variants.{Fits, Missing, Many}
 use Rattle.arguments.specs.declared.Wrong.the-variants.{Option, Missing as NotGiven, Long, Many as TooMany, Twice}
 use Rattle.arguments.specs.Arguments.{fitOf, wrongText, hintText}
+use Rattle.arguments.specs.Table.{numberIn}
 
 abbrev cost : Shape
 cost = record { first = Task; second = Action; third = State; least = 2; most = 3 }
@@ -53,3 +55,23 @@ tasks = refl
 
 probes : hintText (bytes "p") false false ≡ bytes "p is accepted as a task file, and what is asked for takes a probe file\n"
 probes = refl
+
+-- words of a table by number: the first, the last, and two that are not in it
+abbrev table : List ℕ
+table = bytes "check cost steps "
+
+the-first : numberIn table (bytes "check") ≡ 0
+unfolding numberIn
+the-first = refl
+
+the-last : numberIn table (bytes "steps") ≡ 2
+unfolding numberIn
+the-last = refl
+
+a-front : numberIn table (bytes "cos") ≡ 3
+unfolding numberIn
+a-front = refl
+
+no-word : numberIn table [] ≡ 3
+unfolding numberIn
+no-word = refl

@@ -1,4 +1,7 @@
 -- Definitions.
 pub mod Arguments
+pub mod Table
+-- Laws.
+pub mod TableLaws
 -- The examples, computed.
 pub mod Examples

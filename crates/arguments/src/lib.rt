@@ -1,4 +1,5 @@
 // The arguments of a command: how many there have to be, what each is called, and what is wrong with them in words.
+pub mod table;
 mod words;
 
 pub use crate::words::put_hint;

@@ -14,6 +14,7 @@ use arguments::Fit;
 use arguments::Wrong;
 use arguments::fit_of;
 use arguments::name_at;
+use arguments::table::number_in;
 ghost use Prim.Native.Nat.{_≤_};
 
 // The command, the number of its first argument, whether refusals are explained and states shown, whether the file is a probe file, and where a refusal goes; or not, and what is wrong was said.
@@ -53,32 +54,24 @@ const WORDS: u8 = 99;
 
 // What argument i asks for as an option: every command takes `--explain`, and some take others.
 fn choice_of(i: u8) -> Choice {
-    let word = i as usize;
-    if is_word(word, b"--") {
-        return Choice::End;
+    let mut word = io::buffer();
+    let n = os::arg(i as usize, &mut word);
+    let options: &[u8] = b"-- --explain --state --dot --kind=task --kind=probe ";
+    match number_in(options, &word[..n]) {
+        0 => Choice::End,
+        1 => Choice::Explain,
+        2 => taken(is_word(1, b"steps"), Choice::States),
+        3 => taken(is_word(1, b"show"), Choice::Dot),
+        4 => taken(takes_either(first_word(false)), Choice::Kind(false)),
+        5 => taken(takes_either(first_word(false)), Choice::Kind(true)),
+        _ => Choice::Unknown,
     }
-    if is_word(word, b"--explain") {
-        return Choice::Explain;
-    }
-    if is_word(word, b"--state") && is_word(1, b"steps") {
-        return Choice::States;
-    }
-    if is_word(word, b"--dot") && is_word(1, b"show") {
-        return Choice::Dot;
-    }
-    kind(word)
 }
 
-// The same for the kind of a file.
-fn kind(i: usize) -> Choice {
-    if !takes_either(first_word(false)) {
-        return Choice::Unknown;
-    }
-    if is_word(i, b"--kind=task") {
-        return Choice::Kind(false);
-    }
-    if is_word(i, b"--kind=probe") {
-        return Choice::Kind(true);
+// What an option asks for, if the command takes it.
+fn taken(takes: bool, choice: Choice) -> Choice {
+    if takes {
+        return choice;
     }
     Choice::Unknown
 }

@@ -2,6 +2,7 @@
 use crate::input::is_word;
 use arguments::Name;
 use arguments::Shape;
+use arguments::table::number_in;
 
 pub enum Command {
     Check,
@@ -21,40 +22,24 @@ pub enum Command {
 
 // The command that the first argument is; `show --dot` draws.
 pub fn first_word(dot: bool) -> Command {
-    if is_word(1, b"check") {
-        return Command::Check;
+    let mut word = io::buffer();
+    let n = os::arg(1, &mut word);
+    let commands: &[u8] =
+        b"check compile cost relaxed run follow expand contract estimate show steps ";
+    match number_in(commands, &word[..n]) {
+        0 => Command::Check,
+        1 => Command::Compile,
+        2 => Command::Cost,
+        3 => Command::Relaxed,
+        4 => Command::Run,
+        5 => Command::Follow,
+        6 => Command::Expand,
+        7 => Command::Contract,
+        8 => Command::Estimate,
+        9 => shown(dot),
+        10 => Command::Steps,
+        _ => Command::Unknown,
     }
-    if is_word(1, b"compile") {
-        return Command::Compile;
-    }
-    if is_word(1, b"cost") {
-        return Command::Cost;
-    }
-    if is_word(1, b"relaxed") {
-        return Command::Relaxed;
-    }
-    if is_word(1, b"run") {
-        return Command::Run;
-    }
-    if is_word(1, b"follow") {
-        return Command::Follow;
-    }
-    if is_word(1, b"expand") {
-        return Command::Expand;
-    }
-    if is_word(1, b"contract") {
-        return Command::Contract;
-    }
-    if is_word(1, b"estimate") {
-        return Command::Estimate;
-    }
-    if is_word(1, b"steps") {
-        return Command::Steps;
-    }
-    if is_word(1, b"show") {
-        return shown(dot);
-    }
-    Command::Unknown
 }
 
 // What `show` is.
