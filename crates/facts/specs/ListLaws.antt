@@ -31,6 +31,12 @@ module _ {A : Type 0} where
   found (y ∷ xs) zero {x} h = subst (λ (z : A). At (y ∷ xs) zero z) (Option·some-injective y x h) here
   found (y ∷ xs) (suc k) h = there (found xs k h)
 
+  -- there is no element past the last
+  pub look-none : (xs : List A) (k : ℕ) → length xs ≤ k → getElem? xs k ≡ none
+  look-none [] k l = refl
+  look-none (x ∷ xs) zero l = absurd (omega arith)
+  look-none (x ∷ xs) (suc k) l = look-none xs k (omega arith)
+
   pub at-none : {k : ℕ} {x : A} → At [] k x → ⊥
   at-none h = elim h [ ]
 

@@ -1,14 +1,13 @@
 -- Laws of what the operations answer on an accepted file, by its index.
-use mathlib.Core.Path.{_≡_, refl, sym, ap, _∙_}
-use mathlib.Core.Option.{none}
-use Prim.Native.Nat.{ℕ, zero, suc, _+_, _*_, _≤_, _<_}
+use mathlib.Core.Path.{_≡_, sym, ap, _∙_}
+use Prim.Native.Nat.{ℕ, _+_, _*_, _≤_, _<_}
 use native.Mathlib.Omega.{arith}
-use mathlib.Core.List.{List, [], _∷_}
-use lib.ListN.{length, getD, take, drop, getElem?}
+use mathlib.Core.List.{List, []}
+use lib.ListN.{length, getD, take, drop}
 use Rattle.facts.specs.Read.{Read, accepted, refused, _>>=_}
 use Rattle.facts.specs.ReadLaws.{made, not-made}
 use Rattle.facts.specs.Lists.{At}
-use Rattle.facts.specs.ListLaws.{at-getD, look}
+use Rattle.facts.specs.ListLaws.{at-getD, look, look-none}
 use Rattle.facts.specs.Partial.{partialAt}
 use Rattle.facts.specs.State.{checkState}
 use Rattle.facts.specs.StateLaws.{state-inside}
@@ -24,11 +23,6 @@ use Rattle.taskfile.specs.MoveInPlaceLaws.{sum-in-place}
 use Rattle.taskfile.specs.Row.{ownFrom}
 use Rattle.taskfile.specs.InPlace.{taskAt}
 use Rattle.taskfile.specs.Index.{Ready}
-
-look-none : {A : Type 0} (xs : List A) (k : ℕ) → length xs ≤ k → getElem? xs k ≡ none
-look-none [] k l = refl
-look-none (x ∷ xs) zero l = absurd (omega arith)
-look-none (x ∷ xs) (suc k) l = look-none xs k (omega arith)
 
 -- what the file's refusal does to the operations
 pub ask-refused : (checked : List ℕ → List ℕ → Read (Unit {0})) (answer : Action → List ℕ → ℕ) (f : List ℕ) (a : ℕ) (s : List ℕ) {n p : ℕ} → checkTask f ≡ refused n p

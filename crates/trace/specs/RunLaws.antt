@@ -12,7 +12,7 @@ use borrow.Author.Tests.{ltb-true, ltb-false}
 use Rattle.facts.specs.Read.{Read, accepted, refused, check, _>>=_}
 use Rattle.facts.specs.ReadLaws.{not-refused}
 use Rattle.facts.specs.Lists.{At}
-use Rattle.facts.specs.ListLaws.{look, found, at-length}
+use Rattle.facts.specs.ListLaws.{look, look-none, found, at-length}
 use Rattle.facts.specs.Partial.{Partial, holds, apply}
 use Rattle.facts.specs.Run.{Move, next, blocked, attempt, moved, runFrom}
 use Rattle.taskfile.specs.Task.{Task}
@@ -20,7 +20,6 @@ use Rattle.taskfile.specs.PartsInPlaceLaws.{at-some}
 use Rattle.probefile.specs.Probe.{Step, stepMove, probeSum}
 use Rattle.compilation.specs.Compile.{probeOf}
 use Rattle.compilation.specs.StepLaws.{map-at}
-use Rattle.words.specs.DescribeLaws.{look-none}
 use Rattle.steps.specs.Steps.{Named, namesOf}
 use Rattle.steps.specs.CostLaws.{same-costs, same-count}
 use Rattle.failure.specs.Failure.{stepPre, stepEff}

@@ -1,15 +1,14 @@
 -- From the index of an accepted task file to the operations: what is written from the parts in place is the task's text.
-use Prim.Native.Nat.{ℕ, zero, suc, _+_, _*_, _-_, _≤_, _<_}
-use mathlib.Core.Option.{none}
-use mathlib.Core.Path.{_≡_, refl, sym, ap, _∙_}
+use Prim.Native.Nat.{ℕ, _+_, _*_, _-_, _≤_, _<_}
+use mathlib.Core.Path.{_≡_, sym, ap, _∙_}
 use mathlib.Core.List.{List, [], _∷_, _++_}
 use native.Mathlib.Omega.{arith}
-use lib.ListN.{length, getD, take, drop, getElem?}
+use lib.ListN.{length, getD, take, drop}
 use Rattle.facts.specs.Read.{Read, accepted, refused}
 use Rattle.facts.specs.ReadLaws.{not-made}
 use Rattle.facts.specs.Write.{lengthIn, writtenIn}
 use Rattle.facts.specs.WriteLaws.{short-in, wrote-in}
-use Rattle.facts.specs.ListLaws.{look}
+use Rattle.facts.specs.ListLaws.{look, look-none}
 use Rattle.facts.specs.Partial.{partialAt}
 use Rattle.taskfile.specs.Task.{Action, Task}
 use Rattle.taskfile.specs.TaskFile.{readTask, checkTask, actionOf}
@@ -27,12 +26,6 @@ use Rattle.words.specs.DotLaws.{drawing-text, row-one}
 use Rattle.words.specs.Rows.{rowFrom, actionFor, showing, drawing}
 use Rattle.words.specs.RowLaws.{actions-row, list-row}
 use Rattle.words.specs.DescribeFile.{shown, drawn, drawnAction}
-
--- There is no element past the last.
-pub look-none : {A : Type 0} (xs : List A) (k : ℕ) → length xs ≤ k → getElem? xs k ≡ none
-look-none [] k l = refl
-look-none (x ∷ xs) zero l = absurd (omega arith)
-look-none (x ∷ xs) (suc k) l = look-none xs k (omega arith)
 
 -- Variables with these sizes and initial values.
 pub variables-row : (sizes init : List ℕ) → rowFrom (λ v. variableText v (getD sizes v 0) (getD init v 0)) 0 (length sizes) ≡ flat (λ v size. variableText v size (getD init v 0)) 0 sizes
