@@ -8,13 +8,13 @@ use facts::Refusal;
 use facts::number::read_map;
 use facts::number::read_word;
 ghost use mathlib.Core.Path.{_≡_};
-ghost use Prim.Native.Nat.{_+_, _%_, _^_, _≤_, _<_};
+ghost use Prim.Native.Nat.{_+_, _^_, _≤_, _<_};
 ghost use lib.Count.{ones};
 ghost use lib.Dec.{leb};
 ghost use lib.ListN.{length};
 ghost use Rattle.facts.specs.Answers.{pastAnswer, heldAnswer, EndsAt, EndsAlike};
 ghost use Rattle.facts.specs.Bits.{LowestBit};
-ghost use Rattle.facts.specs.Partial.{holds, apply, partialBytes, valuePlace, standingAt, partialAt, pastPartial, Alike};
+ghost use Rattle.facts.specs.Partial.{holds, apply, partialBytes, standingAt, partialAt, pastPartial, Alike};
 ghost use Rattle.facts.specs.Fields.{nextOf, standing, readValue, readValues, readPartial, readOperator};
 
 // The length in bytes of a partial state with this map: "The count of standing bits is the count of value bytes."
@@ -32,23 +32,6 @@ pub fn length_at(file: &[u8], at: usize) -> usize
         Field::Value(map) => partial_length(map),
         Field::Refused(_) => 8,
     }
-}
-
-// How far past the map's first byte the value byte of a variable lies whose bit stands in the map.
-pub fn value_place(map: u64, variable: usize) -> usize
-    ensures { λ r. ⌜ r ≡ valuePlace map variable ⌝ }
-{
-    partial_length(lower_bits(map, variable))
-}
-
-// The bits of a map below a variable's.
-fn lower_bits(map: u64, variable: usize) -> u64
-    ensures { λ r. ⌜ r ≡ map % 2 ^ variable ⌝ }
-{
-    if 64 <= variable {
-        return map;
-    }
-    map % (1 << variable)
 }
 
 // Past the partial state at an offset, checked against the domain sizes of the variables.
