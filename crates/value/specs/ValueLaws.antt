@@ -1,10 +1,10 @@
 -- Laws of the value that a partial state has for a variable: it comes after the values of the lower standing bits; it is what has to hold, and what is set.
 use mathlib.Core.Path.{_≡_, refl, sym, ap, ap₂, _∙_}
-use mathlib.Core.Logic.{_↔_}
+use mathlib.Core.Logic.{_↔_, _⊎_, inl, inr}
 use mathlib.Core.Bool.{true, _&&_, and-eq-true-iff}
 use mathlib.Core.Option.{Option, none, some, Option·getD, Option·none-ne-some, Option·some-injective}
 use mathlib.Core.List.{List, [], _∷_}
-use Prim.Native.Nat.{ℕ, zero, suc, _+_, _/_, _%_, _^_, _≤_, _<_}
+use Prim.Native.Nat.{ℕ, zero, suc, _+_, _-_, _/_, _%_, _^_, _≤_, _<_}
 use native.Mathlib.Nat.{mod-lt}
 use native.Mathlib.Omega.{arith}
 use lib.Arith.{lt-one}
@@ -23,9 +23,14 @@ halved : (m v : ℕ) → m / 2 / 2 ^ v ≡ m / 2 ^ suc v
 halved m v = shr-shr m 1 v ∙ ap (λ (k : ℕ). m / 2 ^ k) (omega arith)
 
 -- the lowest bit, and those above it
-pub lower-first : (m v : ℕ) → lowerStanding m (suc v) ≡ m % 2 + lowerStanding (m / 2) v
+lower-first : (m v : ℕ) → lowerStanding m (suc v) ≡ m % 2 + lowerStanding (m / 2) v
 lower-first m zero = omega arith
 lower-first m (suc v) = omega (arith, lower-first m v, ap (λ (h : ℕ). h % 2) (halved m v))
+
+-- a turn of a loop over k bits: the lowest, and k - 1 above it; of no bits none stands
+pub lower-turn : (m k : ℕ) → ((k ≡ 0) × (lowerStanding m k ≡ 0) × (lowerStanding (m / 2) (k - 1) ≡ 0)) ⊎ (lowerStanding m k ≡ m % 2 + lowerStanding (m / 2) (k - 1))
+lower-turn m zero = inl (refl, refl, refl)
+lower-turn m (suc k) = let z : k ≡ suc k - 1 = omega arith in inr (lower-first m k ∙ ap (λ (j : ℕ). m % 2 + lowerStanding (m / 2) j) z)
 
 ones-bit : (b : ℕ) → b < 2 → ones b ≡ b
 unfolding ones

@@ -1,10 +1,11 @@
 -- `value::value_place` meets its contract: the place so far and the lower bits that are left make the place. Assumes nothing.
-use Prim.Native.Nat.{suc, _+_, _-_}
-use mathlib.Core.Path.{_≡_, ap, _∙_}
+use Prim.Native.Nat.{_+_, _-_, _/_}
+use mathlib.Core.Path.{_≡_, ap}
+use mathlib.Core.Logic.{⊎-elim}
 use native.Mathlib.Nat.{sub-zero}
 use native.Mathlib.Omega.{arith}
 use Rattle.value.specs.Value.{lowerStanding}
-use Rattle.value.specs.ValueLaws.{lower-first, lower-most, place-counts}
+use Rattle.value.specs.ValueLaws.{lower-turn, lower-most, place-counts}
 use Rattle.value.proofs.value_place.Statement.{statement}
 use Rattle.value.proofs.value_place.Tie as tie
 
@@ -24,8 +25,9 @@ loop-again : tie.Need-loop-again Inv-loop μ-loop
 loop-again c =
     let l = c .before .loop in
     let n = c .before .before .args .variable in
-    let one-less : n - l .lower ≡ suc (n - (l .lower + 1)) = omega arith in
-    omega (arith, l .inv, ap (lowerStanding (l .rest)) one-less ∙ lower-first (l .rest) (n - (l .lower + 1)))
+    let next : n - l .lower - 1 ≡ n - (l .lower + 1) = omega arith in
+    let left = ap (lowerStanding (l .rest / 2)) next in
+    ⊎-elim (λ none. omega (arith, l .inv, none, left)) (λ turn. omega (arith, l .inv, turn, left)) (lower-turn (l .rest) (n - l .lower))
 
 returns : tie.Need-returns Inv-loop μ-loop
 returns c =
