@@ -1,4 +1,4 @@
--- Laws of the bits of a map: the lowest standing one, those below a variable, those past the variables.
+-- Laws of the bits of a map: the lowest standing one, and those past the variables.
 use mathlib.Core.Path.{_≡_, refl, ap, _∙_}
 use Prim.Native.Nat.{ℕ, zero, suc, _+_, _*_, _/_, _%_, _^_, _≤_, _<_}
 use native.Mathlib.Nat.{mul-le-mul-right, mod-lt, div-eq-of-lt, lt-of-not-le}
