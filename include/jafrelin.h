@@ -6,7 +6,7 @@
  * Slices of one call must not overlap: the proofs are about memory that no two of them share. An empty slice may come with any pointer.
  *
  * The result of every function:
- *   bits 63 to 56   the refusal's number, 1 to 12; 0 for success
+ *   bits 63 to 56   the refusal's number, 1 to 12 or 17; 0 for success
  *   bits 55 to 32   for success: the length written; of an estimate 0 exact, 1 over, 2 never; else 0
  *   bits 31 to 0    for success: the sum, the cost or the exact estimate; for a refusal: its place
  */
@@ -41,7 +41,8 @@ enum jafrelin_refusal {
     JAFRELIN_BLOCKED = 9,  /* a step does not apply: its index */
     JAFRELIN_UNMET = 10,   /* the goal is not met at the end: the list's length */
     JAFRELIN_MISSING = 11, /* there is no such action or step: its index, 0 for an action number */
-    JAFRELIN_WIDTH = 12    /* a state's length is not the number of variables: 0 */
+    JAFRELIN_WIDTH = 12,   /* a state's length is not the number of variables: 0 */
+    JAFRELIN_LACKING = 17  /* a relaxed set lacks the value that the action's precondition has for its variable: the variable */
 };
 
 /* What an estimate's JAFRELIN_LENGTH says of its number. */
@@ -80,7 +81,7 @@ enum jafrelin_refusal {
 #define JAFRELIN_STACK_ESTIMATE_TASK 49152
 #define JAFRELIN_STACK_ESTIMATE_PROBE 69632
 #define JAFRELIN_STACK_COMPILE 4096
-#define JAFRELIN_STACK_EXPAND 20480
+#define JAFRELIN_STACK_EXPAND 24576
 #define JAFRELIN_STACK_CONTRACT 24576
 #define JAFRELIN_STACK_SHOW 4096
 #define JAFRELIN_STACK_DRAW 4096
@@ -92,7 +93,7 @@ enum jafrelin_refusal {
 uint64_t jafrelin_check_task(const uint8_t *file, size_t file_len);
 uint64_t jafrelin_check_probe(const uint8_t *file, size_t file_len);
 
-/* The cost of an action in a state, and its least cost over all states in a relaxed state. */
+/* The cost of an action in a state, and its least cost over all states in a relaxed state that meet its precondition. */
 uint64_t jafrelin_cost(const uint8_t *file, size_t file_len, uint64_t action, const uint8_t *state, size_t state_len);
 uint64_t jafrelin_relaxed_cost(const uint8_t *file, size_t file_len, uint64_t action, const uint8_t *sets, size_t sets_len);
 

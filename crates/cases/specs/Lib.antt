@@ -6,11 +6,12 @@ pub mod SiteLaws
 pub mod RisingLaws
 pub mod TaskSiteLaws
 pub mod FileRows
--- Rows 4 and 7 to 12, of lists, states and buffers.
+-- Rows 4, 7 to 12 and 17, of lists, states and buffers.
 pub mod ListRows
 pub mod StartRows
 pub mod OperationRows
 pub mod StateRows
+pub mod LackingRows
 -- Which numbers are given at all, at which places, and how large answers can be.
 pub mod Numbers
 pub mod PlaceLaws

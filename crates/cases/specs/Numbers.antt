@@ -22,7 +22,8 @@ use Rattle.cases.specs.TaskSiteLaws.{task-faults}
 use Rattle.cases.specs.FileRows.{file-numbers, probe-numbers}
 use Rattle.cases.specs.ListRows.{ListFault, list-numbers}
 use Rattle.cases.specs.OperationRows.{by-given, probeSystem, Overfull, run-task, run-probe, expand-list, contract-list, compile-room, answer-room}
-use Rattle.cases.specs.StateRows.{AskFault, estimate-row, cost-row, relaxed-row, state-numbers, ask-numbers}
+use Rattle.cases.specs.StateRows.{AskFault, estimate-row, cost-row, state-numbers, ask-numbers}
+use Rattle.cases.specs.LackingRows.{RelaxedFault, of-asking, lacking, relaxed-row}
 
 -- ---- files
 
@@ -80,14 +81,18 @@ not-seven (inr u) = omega arith
 abbrev pub OfCosts : ℕ → Type 0
 OfCosts n = OfFiles n ⊎ ((11 ≤ n) × (n ≤ 12))
 
-pub numbers-of-costs : (f : List ℕ) (a : ℕ) (s : List ℕ) (n p : ℕ) → (costTask f a s ≡ refused n p → OfCosts n) × (relaxedTask f a s ≡ refused n p → OfCosts n)
+pub numbers-of-costs : (f : List ℕ) (a : ℕ) (s : List ℕ) (n p : ℕ) → (costTask f a s ≡ refused n p → OfCosts n) × (relaxedTask f a s ≡ refused n p → OfCosts n ⊎ (n ≡ 17))
 numbers-of-costs f a s n p = (
   λ h. by-given (λ e. inl (file-numbers (task-faults f) e)) (λ t. asked) (cost-row f a s n p .0 h),
-  λ h. by-given (λ e. inl (file-numbers (task-faults f) e)) (λ t. asked) (relaxed-row f a s n p .0 h),
+  λ h. by-given (λ e. inl (inl (file-numbers (task-faults f) e))) (λ t. relaxed) (relaxed-row f a s n p .0 h),
 )
   where
     asked : {Bad : ℕ → ℕ → Type 0} {t : Task} → AskFault Bad t a s n p → OfCosts n
     asked d = elim (ask-numbers {n = n} d) [ inl e ↦ inl (omega arith, omega arith) | inr u ↦ inr u ]
+
+    relaxed : {t : Task} → RelaxedFault t a s n p → OfCosts n ⊎ (n ≡ 17)
+    relaxed (of-asking d) = inl (asked d)
+    relaxed (lacking e x h inside low) = inr e
 
 -- of an estimate of any kind of file: the file's, 4 among them, or 12
 estimate-numbers : {X : Type 0} (sizes : X → List ℕ) (estimate : X → List ℕ → Number) (file : Read X) (s : List ℕ) (n p most : ℕ) → 4 ≤ most → (file ≡ refused n p → (1 ≤ n) × (n ≤ most))

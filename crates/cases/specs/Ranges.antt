@@ -1,7 +1,7 @@
 -- How large the answers of the operations can be, for every file, list, state and buffer: each place, and each length, cost, sum and exact estimate.
 use mathlib.Core.Path.{_≡_, refl, sym, _∙_}
 use mathlib.Core.Option.{Option, none, some}
-use Prim.Native.Nat.{ℕ, suc, _+_, _*_, _≤_, _<_, min}
+use Prim.Native.Nat.{ℕ, suc, _+_, _*_, _≤_, _<_}
 use native.Mathlib.Nat.{mul-suc, mul-le-mul-left}
 use native.Mathlib.Omega.{arith}
 use mathlib.Core.Bool.{Bool, true, false}
@@ -11,11 +11,11 @@ use lib.ListN.{length, getElem?}
 use Rattle.facts.specs.Read.{Read, accepted, refused, withValue, _>>=_}
 use Rattle.facts.specs.ReadLaws.{through, bind-assoc}
 use Rattle.facts.specs.Write.{lengthIn}
-use Rattle.facts.specs.Lists.{All, nil, cons, At}
-use Rattle.facts.specs.ListLaws.{found, all-at, at-length}
+use Rattle.facts.specs.Lists.{nil, cons, At, upFrom}
+use Rattle.facts.specs.ListLaws.{found, all-at, at-length, length-upFrom, zip-length}
 use Rattle.facts.specs.Bytes.{Bytes}
 use Rattle.facts.specs.Partial.{Partial, holds}
-use Rattle.facts.specs.State.{Inside, checkValues, checkWith, checkState}
+use Rattle.facts.specs.State.{Inside, checkEach, checkWith, checkState}
 use Rattle.facts.specs.StateLaws.{state-inside}
 use Rattle.facts.specs.Run.{Move, next, blocked, attempt, moved, runFrom, atMost}
 use Rattle.facts.specs.RunLaws.{attempt-next, attempt-blocked, not-blocked}
@@ -32,18 +32,18 @@ use Rattle.probefile.specs.ProbeFile.{readProbe, checkProbe, writeProbe, runPro
 use Rattle.probefile.specs.ProbeLaws.{probe-wf}
 use Rattle.probefile.specs.Probe.{maxBytes as maxProbeBytes}
 use Rattle.probe_estimate.specs.Estimate.{stepAchiever, probeEstimate, estimateProbe}
-use Rattle.relaxation.specs.Least.{leastOf, prefixed, states}
-use Rattle.relaxation.specs.Relaxed.{valuesIn, RelaxedInside, relaxedCost}
+use Rattle.relaxation.specs.Relaxed.{RelaxedInside, relaxedCost}
 use Rattle.relaxation.specs.RelaxedLaws.{set-below}
-use Rattle.relaxation.specs.RelaxedTask.{goodSet, checkRelaxed, relaxedTask}
-use Rattle.relaxation.specs.RelaxedTaskLaws.{relaxed-inside}
+use Rattle.relaxation.specs.SetLaws.{value-stands}
+use Rattle.relaxation.specs.NarrowingLaws.{InSets, relaxed-had}
+use Rattle.relaxation.specs.RelaxedTask.{goodSet, checkRelaxed, checkMeets, relaxedIn, relaxedTask}
+use Rattle.relaxation.specs.RelaxedTaskLaws.{small-sizes, relaxed-inside}
 use Rattle.relaxation.specs.Estimate.{leastCost, actionAchiever, estimate}
 use Rattle.relaxation.specs.EstimateTask.{estimateTask}
 use Rattle.compilation.specs.Compile.{probeOf}
 use Rattle.compilation.specs.CompileFile.{probeFileOf, compileFile}
 use Rattle.compilation.specs.CompiledLaws.{task-accepted, compiled-wf}
 use Rattle.compilation.specs.CompiledLengthLaws.{compiled-length}
-use Rattle.compilation.specs.StepLaws.{at-all, all-append, all-map}
 use Rattle.plans.specs.Carry.{expand, contract}
 use Rattle.plans.specs.LengthLaws.{expand-fits}
 use Rattle.carry.specs.CarryFile.{expanded, startsAtMost, contracted, answerIn}
@@ -68,13 +68,13 @@ check-probe-range f = checked-range (probe-places f)
 
 -- ---- a state, or a relaxed state, of at most so many variables
 
-values-placed : (good : ℕ → ℕ → Bool) (v : ℕ) (sizes s : List ℕ) (most : ℕ) → v + length sizes ≤ most → Placed most (checkValues good v sizes s)
-values-placed good v [] s most l = value tt
-values-placed good v (d ∷ sizes) [] most l = value tt
-values-placed good v (d ∷ sizes) (x ∷ s) most l = then-within _ (check-placed (good d x) 4 v most (omega arith)) (λ u e g. values-placed good (suc v) sizes s most (omega arith))
+values-placed : (n : ℕ) (good : ℕ → ℕ → Bool) (v : ℕ) (sizes s : List ℕ) (most : ℕ) → v + length sizes ≤ most → Placed most (checkEach n good v sizes s)
+values-placed n good v [] s most l = value tt
+values-placed n good v (d ∷ sizes) [] most l = value tt
+values-placed n good v (d ∷ sizes) (x ∷ s) most l = then-within _ (check-placed (good d x) n v most (omega arith)) (λ u e g. values-placed n good (suc v) sizes s most (omega arith))
 
 with-placed : (good : ℕ → ℕ → Bool) (sizes s : List ℕ) (most : ℕ) → length sizes ≤ most → Placed most (checkWith good sizes s)
-with-placed good sizes s most l = then-within _ (check-placed (eqb (length s) (length sizes)) 12 0 most (omega arith)) (λ u e g. values-placed good 0 sizes s most (omega arith))
+with-placed good sizes s most l = then-within _ (check-placed (eqb (length s) (length sizes)) 12 0 most (omega arith)) (λ u e g. values-placed 4 good 0 sizes s most (omega arith))
 
 -- ---- costs
 
@@ -87,11 +87,11 @@ action-placed actions a most = go (getElem? actions a) refl
     go (some x) e = value (found actions a e)
 
 module _ (f : List ℕ) (bytes : Bytes f) (a : ℕ) (s : List ℕ) where
-  ask-range : (checks : List ℕ → List ℕ → Read (Unit {0})) (answer : Action → List ℕ → ℕ) → ((sizes : List ℕ) → length sizes ≤ maxVariables → Placed (suc maxBytes) (checks sizes s))
-      → ((t : Task) (x : Action) → readTask f ≡ accepted t → At (t .actions) a x → checks (t .sizes) s ≡ accepted tt → answer x s ≤ maxCost)
-      → Within (λ c. c ≤ maxCost) (suc maxBytes) (askTask checks answer f a s)
+  ask-range : {A : Type 0} (P : A → Type 0) (checks : List ℕ → List ℕ → Read (Unit {0})) (answer : Action → List ℕ → A) → ((sizes : List ℕ) → length sizes ≤ maxVariables → Placed (suc maxBytes) (checks sizes s))
+      → ((t : Task) (x : Action) → readTask f ≡ accepted t → At (t .actions) a x → checks (t .sizes) s ≡ accepted tt → P (answer x s))
+      → Within P (suc maxBytes) (askTask checks answer f a s)
   unfolding askTask
-  ask-range checks answer placed most =
+  ask-range P checks answer placed most =
       then-within _ (task-places f) (λ t h g.
       then-within _ (action-placed (t .actions) a (suc maxBytes)) (λ x e k.
       then-within _ (placed (t .sizes) (task-limits f h .variables)) (λ u i g. value (most t x h k i))))
@@ -99,37 +99,33 @@ module _ (f : List ℕ) (bytes : Bytes f) (a : ℕ) (s : List ℕ) where
   pub cost-range : Within (λ c. c ≤ maxCost) (suc maxBytes) (costTask f a s)
   unfolding checkState
   cost-range =
-      ask-range checkState cost (λ sizes l. with-placed (λ d x. ltb x d) sizes s (suc maxBytes) (omega arith)) (λ t x h k i. accepted-cost f h k s (state-inside (t .sizes) s i) bytes)
+      ask-range (λ c. c ≤ maxCost) checkState cost (λ sizes l. with-placed (λ d x. ltb x d) sizes s (suc maxBytes) (omega arith)) (λ t x h k i. accepted-cost f h k s (state-inside (t .sizes) s i) bytes)
 
--- the least of costs that are each at most so much
-least-most : (cs : List ℕ) (most : ℕ) → All (λ c. c ≤ most) cs → leastOf min 0 cs ≤ most
-least-most [] most h = omega arith
-least-most (c ∷ []) most h = h .0
-least-most (c ∷ d ∷ cs) most h = omega (arith, h .0)
-
--- states whose every value is in the sets are inside the domains
-prefixed-inside : (d : ℕ) (sizes values : List ℕ) (more : List (List ℕ)) → All (λ x. x < d) values → All (Inside sizes) more → All (Inside (d ∷ sizes)) (prefixed values more)
-prefixed-inside d sizes [] more h g = tt
-prefixed-inside d sizes (x ∷ values) more h g =
-    all-append (Inside (d ∷ sizes)) (map (λ (s : List ℕ). x ∷ s) more) (prefixed values more)
-    (all-map (λ (s : List ℕ). x ∷ s) (Inside (d ∷ sizes)) more (at-all (λ s. (x < d) × Inside sizes s) more (λ j s a. (h .0, all-at (Inside sizes) g a))))
-    (prefixed-inside d sizes values more (h .1) g)
-
-states-inside : {sizes sets : List ℕ} → RelaxedInside sizes sets → All (Inside sizes) (states (map valuesIn sets))
-states-inside nil = (tt, tt)
-states-inside (cons {a = d} {b = set} {xs = sizes} {ys = sets} r z) = prefixed-inside d sizes (valuesIn set) (states (map valuesIn sets)) (set-below r) (states-inside z)
+-- a state in the sets is inside the domains
+sets-inside : {sizes sets s : List ℕ} → RelaxedInside sizes sets → InSets sets s → Inside sizes s
+sets-inside nil nil = tt
+sets-inside (cons {a = size} {b = set} r z) (cons {b = d} h y) = (all-at (λ x. x < size) (set-below r) (value-stands set d .1 h .1), sets-inside z y)
 
 module _ (f : List ℕ) (bytes : Bytes f) (a : ℕ) (sets : List ℕ) where
-  relaxed-most : {t : Task} {x : Action} → readTask f ≡ accepted t → At (t .actions) a x → RelaxedInside (t .sizes) sets → relaxedCost x sets ≤ maxCost
-  unfolding relaxedCost
-  relaxed-most {t} {x} h k inside =
-      let all = states (map valuesIn sets) in
-      least-most (map (cost x) all) maxCost (all-map (cost x) (λ c. c ≤ maxCost) all (at-all (λ s. cost x s ≤ maxCost) all (λ j s i. accepted-cost f h k s (all-at (Inside (t .sizes)) (states-inside inside) i) bytes)))
+  -- an action of the file, and a relaxed state of it
+  abbrev Fits : Action → Type 0
+  Fits x = (t : Task) × (readTask f ≡ accepted t) × At (t .actions) a x × RelaxedInside (t .sizes) sets
+
+  relaxed-least : (x : Action) → Fits x → checkMeets (x .pre) sets ≡ accepted tt → relaxedCost x sets ≤ maxCost
+  relaxed-least x (t, h, k, inside) meets =
+      let had = relaxed-had (task-wf f h .actions k) (small-sizes (t .sizes) (task-limits f h .sizes)) sets inside meets in
+      omega (arith, had .costs, accepted-cost f h k (had .state) (sets-inside inside (had .in-sets)) bytes)
+
+  meets-placed : (x : Action) → Fits x → Placed (suc maxBytes) (checkMeets (x .pre) sets)
+  unfolding checkMeets
+  meets-placed x (t, h, k, inside) =
+      values-placed 17 _ 0 (upFrom 0 (length sets)) sets (suc maxBytes) (omega (arith, length-upFrom 0 (length sets), zip-length inside, task-limits f h .variables))
 
   pub relaxed-range : Within (λ c. c ≤ maxCost) (suc maxBytes) (relaxedTask f a sets)
-  unfolding checkRelaxed
+  unfolding checkRelaxed relaxedIn relaxedTask
   relaxed-range =
-      ask-range f bytes a sets checkRelaxed relaxedCost (λ sizes l. with-placed goodSet sizes sets (suc maxBytes) (omega arith)) (λ t x h k i. relaxed-most h k (relaxed-inside (t .sizes) sets i))
+      then-within _ (ask-range f bytes a sets Fits checkRelaxed (λ x sets. x) (λ sizes l. with-placed goodSet sizes sets (suc maxBytes) (omega arith)) (λ t x h k i. (t, h, k, relaxed-inside (t .sizes) sets i)))
+      (λ x e fits. then-within _ (meets-placed x fits) (λ u meets g. value (relaxed-least x fits meets)))
 
 -- ---- estimates
 

@@ -1,4 +1,4 @@
--- Rows 4, 11 and 12 of document 01's table, for an action number and a state or a relaxed state: conditions, and the law of each row.
+-- Rows 4, 11 and 12 of document 01's table, for an action number and a state or a relaxed state: conditions, and the law of each row. Row 17 is in LackingRows.
 use mathlib.Core.Path.{_≡_, refl, sym, ap, _∙_}
 use mathlib.Core.Logic.{_↔_, _⊎_, inl, inr}
 use Prim.Native.Nat.{ℕ, zero, suc, _+_, _^_, _≤_, _<_}
@@ -11,14 +11,13 @@ use borrow.Author.Tests.{ltb-false, eqb-true, eqb-false, le-ltb}
 use Rattle.facts.specs.Read.{Read, accepted, refused, check, _>>=_}
 use Rattle.facts.specs.ReadLaws.{checked}
 use Rattle.facts.specs.Lists.{At, here, there}
-use Rattle.facts.specs.State.{checkValues, checkWith, checkState}
+use Rattle.facts.specs.State.{checkEach, checkWith, checkState}
 use Rattle.facts.specs.StateLaws.{with-width, with-values}
 use Rattle.estimate.specs.Number.{Number}
 use Rattle.estimate.specs.Additive.{estimateFile}
 use Rattle.taskfile.specs.Task.{Action, Task, cost}
 use Rattle.taskfile.specs.TaskFile.{actionOf, readTask, askTask, costTask}
-use Rattle.relaxation.specs.Relaxed.{relaxedCost}
-use Rattle.relaxation.specs.RelaxedTask.{goodSet, checkRelaxed, relaxedTask}
+use Rattle.relaxation.specs.RelaxedTask.{goodSet, checkRelaxed}
 use Rattle.relaxation.specs.RelaxedTaskLaws.{set-empty, set-stray}
 use Rattle.cases.specs.SiteLaws.{first, after, stops, stopped, not-accepted, failed, unmade}
 use Rattle.cases.specs.OperationRows.{Given, given}
@@ -88,23 +87,23 @@ module _ {Bad : ℕ → ℕ → Type 0} (good : ℕ → ℕ → Bool) (same : (d
       go _ _ _ l here here b = never b
       go _ _ _ l (there h) (there g) b = o .before _ _ _ (omega arith) h g b
 
-  values-found : (v : ℕ) (sizes s : List ℕ) {n p : ℕ} → checkValues good v sizes s ≡ refused n p → (n ≡ 4) × (q : ℕ) × (p ≡ v + q) × LowestBad Bad sizes s q
-  values-found v [] s h = absurd (not-accepted h)
-  values-found v (d ∷ sizes) [] h = absurd (not-accepted h)
-  values-found v (d ∷ sizes) (x ∷ s) h = elim (stops (check (good d x) 4 v) h) [
+  pub values-found : (m v : ℕ) (sizes s : List ℕ) {n p : ℕ} → checkEach m good v sizes s ≡ refused n p → (n ≡ m) × (q : ℕ) × (p ≡ v + q) × LowestBad Bad sizes s q
+  values-found m v [] s h = absurd (not-accepted h)
+  values-found m v (d ∷ sizes) [] h = absurd (not-accepted h)
+  values-found m v (d ∷ sizes) (x ∷ s) h = elim (stops (check (good d x) m v) h) [
     | first g ↦
-        let q = failed (good d x) 4 v g in
+        let q = failed (good d x) m v g in
         (q .1, 0, omega (arith, q .2), record { size = d; value = x; domain = here; has = here; bad = same d x .0 (q .0); before = λ r e y l. absurd (omega arith) })
     | after u a g ↦
-        let o = values-found (suc v) sizes s g in
-        (o .0, suc (o .1), omega (arith, o .2), later (not-bad (checked (good d x) 4 v a)) (o .3))
+        let o = values-found m (suc v) sizes s g in
+        (o .0, suc (o .1), omega (arith, o .2), later (not-bad (checked (good d x) m v a)) (o .3))
   ]
 
-  values-refused : {sizes s : List ℕ} {q d x : ℕ} (v p : ℕ) → At sizes q d → At s q x → Bad d x → ((r e y : ℕ) → r < q → At sizes r e → At s r y → Bad e y → ⊥)
-      → p ≡ v + q → checkValues good v sizes s ≡ refused 4 p
-  values-refused v p (here {x = d}) (here {x = x}) b before e = rw (same d x .1 b) (ap (refused 4) (omega arith))
-  values-refused v p (there {y = d} h) (there {y = x} g) b before e =
-      rw (not-good d x (before 0 d x (omega arith) here here)) (values-refused (suc v) p h g b (λ r e y l i j. before (suc r) e y (omega arith) (there i) (there j)) (omega arith))
+  pub values-refused : {sizes s : List ℕ} {q d x : ℕ} (m v p : ℕ) → At sizes q d → At s q x → Bad d x → ((r e y : ℕ) → r < q → At sizes r e → At s r y → Bad e y → ⊥)
+      → p ≡ v + q → checkEach m good v sizes s ≡ refused m p
+  values-refused m v p (here {x = d}) (here {x = x}) b before e = rw (same d x .1 b) (ap (refused m) (omega arith))
+  values-refused m v p (there {y = d} h) (there {y = x} g) b before e =
+      rw (not-good d x (before 0 d x (omega arith) here here)) (values-refused m (suc v) p h g b (λ r e y l i j. before (suc r) e y (omega arith) (there i) (there j)) (omega arith))
 
   with-found : (sizes s : List ℕ) {n p : ℕ} → checkWith good sizes s ≡ refused n p → StateFault Bad sizes s n p
   with-found sizes s {n} {p} h =
@@ -114,14 +113,14 @@ module _ {Bad : ℕ → ℕ → Type 0} (good : ℕ → ℕ → Bool) (same : (d
             let q = failed alike 12 0 g in
             wrong-length (q .1) (eqb-false (length s) (length sizes) (q .0)) (q .2)
         | after u e g ↦
-            let o = values-found 0 sizes s g in
+            let o = values-found 4 0 sizes s g in
             let place : o .1 ≡ p = omega (arith, o .2) in
             bad-variable (o .0) (eqb-true (length s) (length sizes) (checked alike 12 0 e)) (rw place at (o .3))
       ]
 
   with-refused : (sizes s : List ℕ) {n p : ℕ} → StateFault Bad sizes s n p → checkWith good sizes s ≡ refused n p
   with-refused sizes s (wrong-length e d q) = rw (e, q) (with-width good sizes s d)
-  with-refused sizes s {p = p} (bad-variable e d o) = rw e (with-values good sizes s d ∙ values-refused 0 p (o .domain) (o .has) (o .bad) (o .before) (omega arith))
+  with-refused sizes s {p = p} (bad-variable e d o) = rw e (with-values good sizes s d ∙ values-refused 4 0 p (o .domain) (o .has) (o .bad) (o .before) (omega arith))
 
   with-row : Refuses (checkWith good) Bad
   with-row sizes s n p = (with-found sizes s, with-refused sizes s)
@@ -139,7 +138,7 @@ no-set size set h = go (ltb 0 set) refl h
     go false e h = let none = ltb-false 0 set e in inl (omega arith)
 
 -- a relaxed state
-relaxed-check : Refuses checkRelaxed NoSet
+pub relaxed-check : Refuses checkRelaxed NoSet
 unfolding checkRelaxed
 relaxed-check = with-row goodSet (λ size set. (no-set size set, λ b. elim b [ inl e ↦ set-empty size set e | inr l ↦ set-stray size set l ]))
 
@@ -159,12 +158,12 @@ action-at [] a = inl (omega arith, refl)
 action-at (x ∷ actions) zero = inr (omega arith, x, refl)
 action-at (x ∷ actions) (suc a) = elim (action-at actions a) [ inl q ↦ inl (omega (arith, q .0), q .1) | inr q ↦ inr (omega (arith, q .0), q .1, q .2) ]
 
-module _ {Bad : ℕ → ℕ → Type 0} (checks : List ℕ → List ℕ → Read (Unit {0})) (answer : Action → List ℕ → ℕ) (refuses : Refuses checks Bad) where
+module _ {A : Type 0} {Bad : ℕ → ℕ → Type 0} (checks : List ℕ → List ℕ → Read (Unit {0})) (answer : Action → List ℕ → A) (refuses : Refuses checks Bad) where
   module _ (t : Task) (a : ℕ) (s : List ℕ) where
-    abbrev asked : Read ℕ
+    abbrev pub asked : Read A
     asked = _>>=_ (actionOf (t .actions) a) (λ x. _>>=_ (checks (t .sizes) s) (λ u. accepted (answer x s)))
 
-    ask-found : {n p : ℕ} → asked ≡ refused n p → AskFault Bad t a s n p
+    pub ask-found : {n p : ℕ} → asked ≡ refused n p → AskFault Bad t a s n p
     ask-found {n} {p} h = elim (action-at (t .actions) a) [
       | inl q ↦
           let g : refused 11 0 ≡ refused n p = rw (q .1) at h in
@@ -174,7 +173,7 @@ module _ {Bad : ℕ → ℕ → Type 0} (checks : List ℕ → List ℕ → Read
       | inr q ↦ of-state (q .0) (refuses (t .sizes) s n p .0 (unmade (checks (t .sizes) s) (λ u. answer (q .1) s) (rw (q .2) at h)))
     ]
 
-    ask-refused : {n p : ℕ} → AskFault Bad t a s n p → asked ≡ refused n p
+    pub ask-refused : {n p : ℕ} → AskFault Bad t a s n p → asked ≡ refused n p
     ask-refused (no-action e l q) = elim (action-at (t .actions) a) [ inl o ↦ rw (o .1, e, q) | inr o ↦ absurd (omega (arith, o .0)) ]
     ask-refused {n} {p} (of-state l d) = elim (action-at (t .actions) a) [ inl o ↦ absurd (omega (arith, o .0)) | inr o ↦ rw (o .2, refuses (t .sizes) s n p .1 d) ]
 
@@ -182,13 +181,9 @@ module _ {Bad : ℕ → ℕ → Type 0} (checks : List ℕ → List ℕ → Read
   unfolding askTask
   ask-row f a s n p = given (readTask f) _ _ n p (λ t. (ask-found t a s, ask-refused t a s))
 
-module _ (f : List ℕ) (a : ℕ) (s : List ℕ) (n p : ℕ) where
-  -- what an action costs in a state, and by sets of values
-  pub cost-row : (costTask f a s ≡ refused n p) ↔ Given (readTask f) (λ t. AskFault Beyond t a s n p) n p
-  cost-row = ask-row checkState cost state-check f a s n p
-
-  pub relaxed-row : (relaxedTask f a s ≡ refused n p) ↔ Given (readTask f) (λ t. AskFault NoSet t a s n p) n p
-  relaxed-row = ask-row checkRelaxed relaxedCost relaxed-check f a s n p
+-- what an action costs in a state
+pub cost-row : (f : List ℕ) (a : ℕ) (s : List ℕ) (n p : ℕ) → (costTask f a s ≡ refused n p) ↔ Given (readTask f) (λ t. AskFault Beyond t a s n p) n p
+cost-row f a s n p = ask-row checkState cost state-check f a s n p
 
 -- ---- what is refused, by its number
 

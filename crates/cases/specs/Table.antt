@@ -1,5 +1,5 @@
--- Document 01's table of refusals, row by row, in its order and with its words: each number is given exactly if its condition holds and no earlier
--- one does, at the place that the table gives. A site is come to if the file is accepted up to it (specs/Sites.antt, specs/TaskSites.antt); what an
+-- Document 01's table of refusals, and document 02's rows, row by row, in their order and with their words: each number is given exactly if its condition holds and no earlier
+-- one does, at the place that the row gives. A site is come to if the file is accepted up to it (specs/Sites.antt, specs/TaskSites.antt); what an
 -- accepted field is, `accepted-field` says, and what accepted parts are, `head-read`, `operator-read` and `diagram-read` of the crates below.
 use mathlib.Core.Path.{_≡_, refl}
 use mathlib.Core.Logic.{_↔_, _⊎_, inl, inr}
@@ -11,13 +11,15 @@ use Rattle.facts.specs.Read.{Read, accepted, refused}
 use Rattle.facts.specs.ReadLaws.{not-made}
 use Rattle.estimate.specs.Number.{Number}
 use Rattle.estimate.specs.Additive.{estimateFile}
-use Rattle.taskfile.specs.Task.{Task}
+use Rattle.facts.specs.Lists.{At}
+use Rattle.taskfile.specs.Task.{Action, Task}
 use Rattle.taskfile.specs.TaskFile.{readTask, checkTask, costTask, runTask}
 use Rattle.probefile.specs.Probe.{Probe, ProbePlan}
 use Rattle.probefile.specs.ProbeFile.{readProbe, checkProbe, writeProbe, runProbe}
 use Rattle.probe_estimate.specs.Estimate.{probeEstimate, estimateProbe}
 use Rattle.relaxation.specs.Estimate.{estimate}
 use Rattle.relaxation.specs.EstimateTask.{estimateTask}
+use Rattle.relaxation.specs.Relaxed.{RelaxedInside}
 use Rattle.relaxation.specs.RelaxedTask.{relaxedTask}
 use Rattle.compilation.specs.Compile.{probeOf}
 use Rattle.compilation.specs.CompileFile.{compileFile}
@@ -30,7 +32,8 @@ use Rattle.cases.specs.ListRows.{System, Missing, Blocked, Unmet, ListFa
 use Rattle.cases.specs.StartRows.{Over}
 use Rattle.cases.specs.Numbers.{not-task, not-probe, not-seven, numbers-of-lists}
 use Rattle.cases.specs.OperationRows.{after-file, either, file-alone, Short, taskSystem, probeSystem, Overfull, run-task, run-probe, expand-list, contract-list, compile-room, answer-room}
-use Rattle.cases.specs.StateRows.{Beyond, NoSet, AskFault, Outside, Stray, estimate-row, cost-row, relaxed-row, action-row, state-row, wrong-length-row, bad-row, state-numbers, ask-numbers}
+use Rattle.cases.specs.StateRows.{Beyond, NoSet, AskFault, Outside, Stray, estimate-row, cost-row, action-row, state-row, wrong-length-row, bad-row, state-numbers, ask-numbers}
+use Rattle.cases.specs.LackingRows.{LowestLacking, relaxed-row, asking-row, lacking-row}
 
 -- ---- what a row says
 
@@ -67,11 +70,11 @@ pub record InStates (n : ℕ) (condition : Task → ℕ → List ℕ → ℕ →
   pub relaxed-costing : (f : List ℕ) (a : ℕ) (sets : List ℕ) (p : ℕ) → (relaxedTask f a sets ≡ refused n p) ↔ ((t : Task) × (readTask f ≡ accepted t) × condition t a sets p)
 
 -- of an action number and a state, whatever is wrong with a variable of it, all that the row says
-in-states : (n : ℕ) (condition : Task → ℕ → List ℕ → ℕ → Type 0) → 7 ≤ n
+in-states : (n : ℕ) (condition : Task → ℕ → List ℕ → ℕ → Type 0) → 7 ≤ n → n ≤ 12
     → ((Bad : ℕ → ℕ → Type 0) (t : Task) (a : ℕ) (s : List ℕ) (p : ℕ) → AskFault Bad t a s n p ↔ condition t a s p) → InStates n condition
-in-states n condition l row = record {
+in-states n condition l m row = record {
   costing = λ f a s p. after-file (not-task f l) (λ t. row Beyond t a s p) (cost-row f a s n p);
-  relaxed-costing = λ f a sets p. after-file (not-task f l) (λ t. row NoSet t a sets p) (relaxed-row f a sets n p);
+  relaxed-costing = λ f a sets p. after-file (not-task f l) (λ t. row NoSet t a sets p) (asking-row f a sets n p (λ e. omega arith));
 }
 
 -- of an estimate of the file that is read by `read`, from a state: 4, which the file may have too; 12; and what only the file has
@@ -124,7 +127,7 @@ row-4-cost f a s p = either (λ t. state-row (λ e. omega arith) (bad-row p)) (c
 -- 4, "relaxed set empty or with a stray bit".
 pub row-4-relaxed : (f : List ℕ) (a : ℕ) (sets : List ℕ) (p : ℕ) → (relaxedTask f a sets ≡ refused 4 p)
     ↔ ((readTask f ≡ refused 4 p) ⊎ ((t : Task) × (readTask f ≡ accepted t) × ((a < length (t .actions)) × ((length sets ≡ length (t .sizes)) × Stray (t .sizes) sets p))))
-row-4-relaxed f a sets p = either (λ t. state-row (λ e. omega arith) (bad-row p)) (relaxed-row f a sets 4 p)
+row-4-relaxed f a sets p = either (λ t. state-row (λ e. omega arith) (bad-row p)) (asking-row f a sets 4 p (λ e. omega arith))
 
 -- 4 and 12, of the state that an estimate is from; the file comes first.
 pub rows-of-task-estimates : InEstimates (λ t. t .sizes) readTask estimateTask
@@ -186,11 +189,16 @@ row-11 = in-lists 11 Missing (omega arith) (λ most y list p. missing-row p)
 
 -- 11, of an action number: "0 for an action number".
 pub row-11-states : InStates 11 (λ t a s p. (length (t .actions) ≤ a) × (p ≡ 0))
-row-11-states = in-states 11 _ (omega arith) (λ Bad t a s p. action-row p)
+row-11-states = in-states 11 _ (omega arith) (omega arith) (λ Bad t a s p. action-row p)
 
 -- 12, "state's length is not the variable count": the place is 0. For an estimate, rows-of-estimates.
 pub row-12-states : InStates 12 (λ t a s p. (a < length (t .actions)) × ((length s ≡ length (t .sizes) → ⊥) × (p ≡ 0)))
-row-12-states = in-states 12 _ (omega arith) (λ Bad t a s p. state-row (λ e. omega arith) (wrong-length-row p))
+row-12-states = in-states 12 _ (omega arith) (omega arith) (λ Bad t a s p. state-row (λ e. omega arith) (wrong-length-row p))
+
+-- 17, of document 02, "where a set lacks a precondition value": "at the lowest such variable, after 4".
+pub row-17 : (f : List ℕ) (a : ℕ) (sets : List ℕ) (p : ℕ) → (relaxedTask f a sets ≡ refused 17 p)
+    ↔ ((t : Task) × (readTask f ≡ accepted t) × ((x : Action) × At (t .actions) a x × RelaxedInside (t .sizes) sets × LowestLacking (x .pre) sets p))
+row-17 f a sets p = after-file (not-task f (omega arith)) (λ t. lacking-row) (relaxed-row f a sets 17 p)
 
 -- ---- the file comes first: an operation gives 1 to 6 exactly if its file has them, but for the 4 of a state
 
@@ -208,7 +216,7 @@ file-first-compiling f room n p l = file-alone (λ t c. let e = c .0 in omega ar
 
 pub file-first-costing : (f : List ℕ) (a : ℕ) (s : List ℕ) (n p : ℕ) → n ≤ 6 → (n ≡ 4 → ⊥)
     → ((costTask f a s ≡ refused n p) ↔ (readTask f ≡ refused n p)) × ((relaxedTask f a s ≡ refused n p) ↔ (readTask f ≡ refused n p))
-file-first-costing f a s n p l d = (file-alone (λ t. never) (cost-row f a s n p), file-alone (λ t. never) (relaxed-row f a s n p))
+file-first-costing f a s n p l d = (file-alone (λ t. never) (cost-row f a s n p), file-alone (λ t. never) (asking-row f a s n p (λ e. omega arith)))
   where
     never : {Bad : ℕ → ℕ → Type 0} {t : Task} → AskFault Bad t a s n p → ⊥
     never c = elim (ask-numbers {n = n} c) [ inl e ↦ d e | inr u ↦ omega arith ]

@@ -6,7 +6,7 @@ use lib.Dec.{eqb}
 use lib.ListN.{length, length-append}
 use Rattle.facts.specs.Refusal.{place}
 use Rattle.facts.specs.declared.Refusal.{Refusal}
-use Rattle.facts.specs.declared.Refusal.the-variants.{Ends, Trailing, Range, Outside, Stray, Diagram, Short, Long, Blocked, Unmet, Missing, Width}
+use Rattle.facts.specs.declared.Refusal.the-variants.{Ends, Trailing, Range, Outside, Stray, Diagram, Short, Long, Blocked, Unmet, Missing, Width, Lacking}
 use Rattle.probefile.specs.Probe.{maxList}
 use Rattle.text.specs.Text.{decimal}
 use Rattle.text.specs.Append.{largest}
@@ -56,3 +56,4 @@ explanation-most s (Blocked p) l = simp length-append (omega (arith, digits p l)
 explanation-most s (Unmet p) l = simp length-append (omega (arith, digits p l))
 explanation-most s (Missing p) l = missing-most s p l
 explanation-most s (Width p) l = omega arith
+explanation-most s (Lacking p) l = simp length-append (omega (arith, digits p l))

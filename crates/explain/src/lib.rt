@@ -66,6 +66,13 @@ pub fn put_explanation(out: &mut [u8], at: usize, subject: Subject, why: Refusal
         ),
         Refusal::Missing(p) => put_missing(out, at, subject, p),
         Refusal::Width(_) => append(out, at, b"There has to be one number for each variable.\n"),
+        Refusal::Lacking(p) => put_around(
+            out,
+            at,
+            b"The set of variable ",
+            p,
+            b" lacks the value that the action needs there to apply.\n",
+        ),
     }
 }
 

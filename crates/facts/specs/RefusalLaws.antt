@@ -9,7 +9,7 @@ use Rattle.facts.specs.Lists.{All}
 use Rattle.facts.specs.ListLaws.{find-inv, find-none}
 use Rattle.facts.specs.Refusal.{number, place, refusals, refusalWith}
 use Rattle.facts.specs.declared.Refusal.{Refusal}
-use Rattle.facts.specs.declared.Refusal.the-variants.{Ends, Trailing, Range, Outside, Stray, Diagram, Short, Long, Blocked, Unmet, Missing, Width}
+use Rattle.facts.specs.declared.Refusal.the-variants.{Ends, Trailing, Range, Outside, Stray, Diagram, Short, Long, Blocked, Unmet, Missing, Width, Lacking}
 
 pub with-number : (why : Refusal) → refusalWith (number why) (place why) ≡ some why
 unfolding refusalWith
@@ -25,6 +25,7 @@ with-number (Blocked p) = refl
 with-number (Unmet p) = refl
 with-number (Missing p) = refl
 with-number (Width p) = refl
+with-number (Lacking p) = refl
 
 pub with-key : (why : Refusal) {n : ℕ} → n ≡ number why → some why ≡ refusalWith n (place why)
 with-key why e = sym (with-number why) ∙ ap (λ (n : ℕ). refusalWith n (place why)) (sym e)
@@ -33,7 +34,7 @@ module _ (n p : ℕ) where
   pub with-inv : {why : Refusal} → refusalWith n p ≡ some why → (place why ≡ p) × (number why ≡ n)
   unfolding refusalWith
   with-inv {why} h =
-      let of = find-inv (λ (why : Refusal). eqb n (number why)) (λ (why : Refusal). place why ≡ p) (refusals p) (refl, (refl, (refl, (refl, (refl, (refl, (refl, (refl, (refl, (refl, (refl, (refl, tt)))))))))))) h in
+      let of = find-inv (λ (why : Refusal). eqb n (number why)) (λ (why : Refusal). place why ≡ p) (refusals p) (refl, (refl, (refl, (refl, (refl, (refl, (refl, (refl, (refl, (refl, (refl, (refl, (refl, tt))))))))))))) h in
       (of .0, sym (eqb-true n (number why) (of .1)))
 
   -- a number that none has

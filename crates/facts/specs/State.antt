@@ -13,13 +13,17 @@ Inside [] (x ∷ s) = ⊥
 Inside (d ∷ sizes) [] = ⊥
 Inside (d ∷ sizes) (x ∷ s) = (x < d) × Inside sizes s
 
--- 4 at the lowest variable whose value, or whatever stands for it, does not pass the test beside its domain size; the first variable has the number v
+-- refusal n at the lowest variable whose two numbers, one of each list, do not pass the test; the first variable has the number v
+abbrev pub checkEach : ℕ → (ℕ → ℕ → Bool) → ℕ → List ℕ → List ℕ → Read (Unit {0})
+checkEach n good v [] s = accepted tt
+checkEach n good v (d ∷ sizes) [] = accepted tt
+checkEach n good v (d ∷ sizes) (x ∷ s) = do
+  _ ← check (good d x) n v
+  checkEach n good (suc v) sizes s
+
+-- 4 at the lowest variable whose value, or whatever stands for it, does not pass the test beside its domain size
 abbrev pub checkValues : (ℕ → ℕ → Bool) → ℕ → List ℕ → List ℕ → Read (Unit {0})
-checkValues good v [] s = accepted tt
-checkValues good v (d ∷ sizes) [] = accepted tt
-checkValues good v (d ∷ sizes) (x ∷ s) = do
-  _ ← check (good d x) 4 v
-  checkValues good (suc v) sizes s
+checkValues good v sizes s = checkEach 4 good v sizes s
 
 -- 12 for the length, then 4 for the values
 abbrev pub checkWith : (ℕ → ℕ → Bool) → List ℕ → List ℕ → Read (Unit {0})

@@ -12,43 +12,44 @@ use borrow.Author.Tests.{eq-eqb, ne-eqb, ltb-true, eqb-true}
 use Rattle.facts.specs.Read.{accepted, refused, check}
 use Rattle.facts.specs.ReadLaws.{through, checked}
 use Rattle.facts.specs.Lists.{Zip, nil, cons}
-use Rattle.facts.specs.State.{Inside, checkValues, checkWith, checkState}
+use Rattle.facts.specs.State.{Inside, checkEach, checkValues, checkWith, checkState}
 
--- ---- by any test of a value beside its domain size
+-- ---- by any test of the two numbers of a variable
+
+-- at variable v
+module _ (n : ℕ) (good : ℕ → ℕ → Bool) (sizes s : List ℕ) (v : ℕ) where
+  pub values-on : v < length sizes → v < length s → good (getD sizes v 0) (getD s v 0) ≡ true
+      → checkEach n good v (drop v sizes) (drop v s) ≡ checkEach n good (v + 1) (drop (v + 1) sizes) (drop (v + 1) s)
+  values-on l m h = rw (drop-cons sizes v 0 l, drop-cons s v 0 m, add-one v, h)
+
+  pub values-outside : v < length sizes → v < length s → good (getD sizes v 0) (getD s v 0) ≡ false → checkEach n good v (drop v sizes) (drop v s) ≡ refused n v
+  values-outside l m h = rw (drop-cons sizes v 0 l, drop-cons s v 0 m, h)
+
+  pub values-all : length sizes ≤ v → checkEach n good v (drop v sizes) (drop v s) ≡ accepted tt
+  values-all l = rw (drop-of-length-le sizes l)
+
+-- for all of them
+pub values-good : (n : ℕ) (good : ℕ → ℕ → Bool) (v : ℕ) (sizes s : List ℕ) {u : Unit {0}} → checkEach n good v sizes s ≡ accepted u → length s ≡ length sizes
+    → Zip (λ d x. good d x ≡ true) sizes s
+values-good n good v [] [] h l = nil
+values-good n good v [] (x ∷ s) h l = absurd (omega arith)
+values-good n good v (d ∷ sizes) [] h l = absurd (omega arith)
+values-good n good v (d ∷ sizes) (x ∷ s) h l =
+    let o = through (check (good d x) n v) h in
+    cons (checked (good d x) n v (o .first)) (values-good n good (suc v) sizes s (o .then) (omega arith))
 
 module _ (good : ℕ → ℕ → Bool) (sizes s : List ℕ) where
-  -- the values, at variable v
-  module _ (v : ℕ) where
-    pub values-on : v < length sizes → v < length s → good (getD sizes v 0) (getD s v 0) ≡ true
-        → checkValues good v (drop v sizes) (drop v s) ≡ checkValues good (v + 1) (drop (v + 1) sizes) (drop (v + 1) s)
-    values-on l m h = rw (drop-cons sizes v 0 l, drop-cons s v 0 m, add-one v, h)
-
-    pub values-outside : v < length sizes → v < length s → good (getD sizes v 0) (getD s v 0) ≡ false → checkValues good v (drop v sizes) (drop v s) ≡ refused 4 v
-    values-outside l m h = rw (drop-cons sizes v 0 l, drop-cons s v 0 m, h)
-
-    pub values-all : length sizes ≤ v → checkValues good v (drop v sizes) (drop v s) ≡ accepted tt
-    values-all l = rw (drop-of-length-le sizes l)
-
   pub with-width : (length s ≡ length sizes → ⊥) → checkWith good sizes s ≡ refused 12 0
   with-width n = rw (ne-eqb (length s) (length sizes) n)
 
   pub with-values : length s ≡ length sizes → checkWith good sizes s ≡ checkValues good 0 sizes s
   with-values e = rw (eq-eqb (length s) (length sizes) e)
 
-module _ (good : ℕ → ℕ → Bool) where
-  values-good : (v : ℕ) (sizes s : List ℕ) {u : Unit {0}} → checkValues good v sizes s ≡ accepted u → length s ≡ length sizes → Zip (λ d x. good d x ≡ true) sizes s
-  values-good v [] [] h l = nil
-  values-good v [] (x ∷ s) h l = absurd (omega arith)
-  values-good v (d ∷ sizes) [] h l = absurd (omega arith)
-  values-good v (d ∷ sizes) (x ∷ s) h l =
-      let o = through (check (good d x) 4 v) h in
-      cons (checked (good d x) 4 v (o .first)) (values-good (suc v) sizes s (o .then) (omega arith))
-
   -- there is one for each variable, and each passes the test
-  pub with-good : (sizes s : List ℕ) {u : Unit {0}} → checkWith good sizes s ≡ accepted u → Zip (λ d x. good d x ≡ true) sizes s
-  with-good sizes s h =
+  pub with-good : {u : Unit {0}} → checkWith good sizes s ≡ accepted u → Zip (λ d x. good d x ≡ true) sizes s
+  with-good h =
       let o = through (check (eqb (length s) (length sizes)) 12 0) h in
-      values-good 0 sizes s (o .then) (eqb-true (length s) (length sizes) (checked (eqb (length s) (length sizes)) 12 0 (o .first)))
+      values-good 4 good 0 sizes s (o .then) (eqb-true (length s) (length sizes) (checked (eqb (length s) (length sizes)) 12 0 (o .first)))
 
 -- ---- states
 

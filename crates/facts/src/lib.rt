@@ -32,6 +32,8 @@ pub enum Refusal {
     Missing(usize),
     // 12: the state's length is not the variable count
     Width(usize),
+    // 17: a relaxed set lacks the value that the precondition has for its variable; the place is the variable
+    Lacking(usize),
 }
 
 // The number that document 01 gives to a refusal.
@@ -51,6 +53,7 @@ pub fn refusal_number(why: Refusal) -> u8
         Refusal::Unmet(_) => 10,
         Refusal::Missing(_) => 11,
         Refusal::Width(_) => 12,
+        Refusal::Lacking(_) => 17,
     }
 }
 
@@ -71,6 +74,7 @@ pub fn refusal_place(why: Refusal) -> usize
         Refusal::Unmet(p) => p,
         Refusal::Missing(p) => p,
         Refusal::Width(p) => p,
+        Refusal::Lacking(p) => p,
     }
 }
 
@@ -97,6 +101,7 @@ pub fn refusal_with(number: u64, place: usize) -> Numbered
         10 => Numbered::Is(Refusal::Unmet(place)),
         11 => Numbered::Is(Refusal::Missing(place)),
         12 => Numbered::Is(Refusal::Width(place)),
+        17 => Numbered::Is(Refusal::Lacking(place)),
         _ => Numbered::Not,
     }
 }

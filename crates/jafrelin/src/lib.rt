@@ -40,7 +40,7 @@ pub extern "C" fn jafrelin_cost(file: &[u8], action: u64, state: &[u8]) -> u64
     packing::costed(task::cost(file, action as usize, state))
 }
 
-// The least cost of an action over all states in a relaxed state.
+// The least cost of an action over all states in a relaxed state that meet its precondition.
 #[no_mangle]
 pub extern "C" fn jafrelin_relaxed_cost(file: &[u8], action: u64, sets: &[u8]) -> u64
     ensures { λ r. ⌜ r ≡ packedSum (relaxedTask (now (file .entry)) action (now (sets .entry))) ⌝ }

@@ -16,7 +16,7 @@ use Rattle.relaxation.specs.RelaxedTask.{relaxedTask}
 use Rattle.relaxation.specs.EstimateTask.{estimateTask}
 use Rattle.compilation.specs.CompileFile.{compileFile}
 use Rattle.carry.specs.CarryFile.{expanded, contracted, answerIn}
-use Rattle.cases.specs.Numbers.{OfLists, numbers-of-checks, numbers-of-lists, numbers-of-costs, numbers-of-estimates, numbers-of-compiling, numbers-of-carrying}
+use Rattle.cases.specs.Numbers.{OfLists, OfCosts, numbers-of-checks, numbers-of-lists, numbers-of-costs, numbers-of-estimates, numbers-of-compiling, numbers-of-carrying}
 use Rattle.cases.specs.PlaceLaws.{Within, value, place}
 use Rattle.cases.specs.Ranges.{Written, check-task-range, check-probe-range, cost-range, relaxed-range, run-task-range, run-probe-range, estimate-task-range, estimate-probe-range, compile-range, expand-range, contract-range}
 use Rattle.packing.specs.Packing.{packed, packedRefusal, packedCheck, packedSum, packedLength, packedList, packedEstimate, refusalOf, lengthOf, sumOf, placeOf, unpacked, unpackedCheck, unpackedSum, unpackedLength, unpackedList, unpackedNumber, unpackedEstimate}
@@ -114,17 +114,21 @@ module _ {most : ℕ} (small : most < 4294967296) where
 
 -- ---- operations
 
--- a list's number is not 0
+-- a list's number is not 0, nor a cost's
 of-lists : {n : ℕ} → OfLists n → 1 ≤ n
 of-lists (inl u) = u .0
 of-lists (inr u) = omega (arith, u .0)
+
+of-costs : {n : ℕ} → OfCosts n → 1 ≤ n
+of-costs (inl u) = u .0
+of-costs (inr u) = omega (arith, u .0)
 
 pub results : (f : List ℕ) → Bytes f → Results f
 results f bytes = record {
   check-task = check-back (omega arith) (check-task-range f) (λ n p h. numbers-of-checks f n p .0 h .0);
   check-probe = check-back (omega arith) (check-probe-range f) (λ n p h. numbers-of-checks f n p .1 h .0);
-  cost = λ a s. sum-back (omega arith) (omega arith) (cost-range f bytes a s) (λ n p h. elim (numbers-of-costs f a s n p .0 h) [ inl u ↦ u .0 | inr u ↦ omega (arith, u .0) ]);
-  relaxed-cost = λ a sets. sum-back (omega arith) (omega arith) (relaxed-range f bytes a sets) (λ n p h. elim (numbers-of-costs f a sets n p .1 h) [ inl u ↦ u .0 | inr u ↦ omega (arith, u .0) ]);
+  cost = λ a s. sum-back (omega arith) (omega arith) (cost-range f bytes a s) (λ n p h. of-costs (numbers-of-costs f a s n p .0 h));
+  relaxed-cost = λ a sets. sum-back (omega arith) (omega arith) (relaxed-range f bytes a sets) (λ n p h. elim (numbers-of-costs f a sets n p .1 h) [ inl u ↦ of-costs u | inr e ↦ omega arith ]);
   run-task = λ list. sum-back (omega arith) (omega arith) (run-task-range f bytes list) (λ n p h. of-lists (numbers-of-lists f list n p .0 h));
   run-probe = λ list. sum-back (omega arith) (omega arith) (run-probe-range f bytes list) (λ n p h. elim (numbers-of-lists f list n p .1 h) [ inl u ↦ u .0 | inr u ↦ omega (arith, u .0) ]);
   estimate-task = λ s. estimate-back (omega arith) (estimate-task-range f s) (λ n p h. elim (numbers-of-estimates f s n p .0 h) [ inl u ↦ u .0 | inr e ↦ omega arith ]);

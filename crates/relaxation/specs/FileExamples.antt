@@ -10,12 +10,12 @@ use Rattle.estimate.specs.Additive.{additiveRound, lastNumbers, additive, estim
 use Rattle.taskfile.specs.Examples.{xy²+z+2-bytes, P-bytes, answering}
 use Rattle.relaxation.specs.Relaxed.{relaxedCost}
 use Rattle.relaxation.specs.Estimate.{leastCost}
-use Rattle.relaxation.specs.RelaxedTask.{checkRelaxed, relaxedTask}
+use Rattle.relaxation.specs.RelaxedTask.{checkRelaxed, checkMeets, relaxedIn, relaxedTask}
 use Rattle.relaxation.specs.EstimateTask.{estimateTask}
 
 -- what an example opens
 relaxing : Unit {0}
-unfolding answering relaxedCost checkRelaxed
+unfolding answering relaxedCost checkRelaxed checkMeets relaxedIn relaxedTask
 relaxing = tt
 
 -- ---- xy² + z + 2, where x and z have 2 values and y has 3
@@ -61,6 +61,41 @@ stray-bit = refl
 stray-beside : relaxedTask xy²+z+2-bytes 0 (3 ∷ 9 ∷ 1 ∷ []) ≡ refused 4 1
 unfolding relaxing
 stray-beside = refl
+
+-- ---- the same with the precondition x = 1, z = 1 and the effect x = 0, and an action without nodes at 7 that needs the same
+
+abbrev needs-x-z : List ℕ
+needs-x-z = 5 ∷ replicate 7 0 ++ 1 ∷ 1 ∷ 1 ∷ replicate 7 0 ++ 0 ∷ []
+
+abbrev pub guarded : List ℕ
+guarded =
+    3 ∷ 2 ∷ 3 ∷ 2 ∷ 0 ∷ 0 ∷ 0 ∷ replicate 8 0 ++ 2 ∷ needs-x-z ++ 2 ∷ 0 ∷ 3
+    ∷ 0 ∷ 3 ∷ 0 ∷ 0 ∷ 2 ∷ 0 ∷ 0
+    ∷ 1 ∷ 3 ∷ 0 ∷ 0 ∷ 3 ∷ 1 ∷ 0 ∷ 3 ∷ 4 ∷ 0
+    ∷ 2 ∷ 4 ∷ 0 ∷ 0 ∷ 4 ∷ 1 ∷ 0 ∷ needs-x-z ++ 7 ∷ 0 ∷ 0 ∷ []
+
+-- the sets {0,1}, {1,2}, {0,1}: it was 2, for x = 0 and z = 0, where the action does not apply
+pub guarded-4 : relaxedTask guarded 0 (3 ∷ 6 ∷ 3 ∷ []) ≡ accepted 4
+unfolding relaxing
+guarded-4 = refl
+
+pub guarded-7 : relaxedTask guarded 1 (3 ∷ 6 ∷ 3 ∷ []) ≡ accepted 7
+unfolding relaxing
+guarded-7 = refl
+
+-- 17 at the lowest variable whose set lacks its value, without nodes too
+pub lacks-x : relaxedTask guarded 0 (1 ∷ 6 ∷ 1 ∷ []) ≡ refused 17 0
+unfolding relaxing
+lacks-x = refl
+
+pub lacks-z : relaxedTask guarded 1 (3 ∷ 6 ∷ 1 ∷ []) ≡ refused 17 2
+unfolding relaxing
+lacks-z = refl
+
+-- after 4: the set of z is empty, and that of x lacks 1
+pub empty-first : relaxedTask guarded 0 (1 ∷ 6 ∷ 0 ∷ []) ≡ refused 4 2
+unfolding relaxing
+empty-first = refl
 
 -- ---- A and B, variables 0 and 1, at 0; the goal is that one of them, by its bit, is 1
 

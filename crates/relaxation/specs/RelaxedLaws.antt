@@ -1,4 +1,4 @@
--- The relaxed cost of an action is what one pass over its diagram finds.
+-- The least cost of an action over all states whose every value is in some sets is what one pass over its diagram finds.
 use mathlib.Core.Path.{_≡_, refl, ap, _∙_, fun-ext}
 use Prim.Native.Nat.{ℕ, zero, suc, _+_, _/_, _%_, _^_, _≤_, _<_, min}
 use native.Mathlib.Nat.{add-comm, add-assoc}
@@ -8,9 +8,9 @@ use lib.ListN.{length, getD}
 use lib.Pow.{pow-mono}
 use Rattle.facts.specs.Lists.{All, nil, cons, At, here, there}
 use Rattle.facts.specs.ListLaws.{at-getD, all-at}
-use Rattle.taskfile.specs.Task.{Node, Action, maxValues, WfAction}
+use Rattle.taskfile.specs.Task.{Node, Action, maxValues, WfAction, cost}
 use Rattle.relaxation.specs.Least.{leastOf, leastOver, valuesSum, MinPlus}
-use Rattle.relaxation.specs.Relaxed.{valuesFrom, valuesIn, SetInside, RelaxedInside, relaxedCost}
+use Rattle.relaxation.specs.Relaxed.{valuesFrom, valuesIn, SetInside, RelaxedInside}
 use Rattle.relaxation.specs.PassLaws.{at-value, Above, edges-above, pass-agrees}
 use Rattle.relaxation.specs.LeastByPass.{weighed, Usable, Choices, last, next, least-by-pass}
 use Rattle.relaxation.specs.RelaxedPass.{relaxedPass, relaxedByPass}
@@ -114,10 +114,10 @@ module _ {sizes : List ℕ} {x : Action} (wf : WfAction sizes x) (small : All (�
       (record { some = set-some r (few .0); neutral = least-nothing (valuesIn set) v; tested = λ h q. ap valuesIn (is 0 v set here (omega arith)) })
       (choices-from (suc v) z (few .1) (omega arith) (λ k q set a e. is (suc k) q set (there a) (omega arith)))
 
-  -- "An action's relaxed cost is its least cost over all states whose every value is in the sets": one pass finds it.
-  pub relaxed-by-pass : relaxedCost x sets ≡ relaxedByPass x sets
-  unfolding relaxedCost relaxedByPass
-  relaxed-by-pass =
+  -- the least cost over all states whose every value is in the sets: one pass finds it
+  pub sets-by-pass : leastOver min 0 (map valuesIn sets) (cost x) ≡ relaxedByPass x sets
+  unfolding relaxedByPass
+  sets-by-pass =
       ap (leastOver min 0 (map valuesIn sets)) (fun-ext (λ s. omega (arith, sum-nothing 0 s)))
       ∙ least-by-pass costs 0 nothing setValues wf usable (choices-from 0 inside small (omega arith) (λ k q set a e. at-value 0 a (omega arith)))
       ∙ ap (λ c. x .incoming + c)

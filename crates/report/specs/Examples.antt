@@ -4,7 +4,7 @@ use Prim.Native.Nat.{ℕ}
 use mathlib.Core.List.{List, [], _∷_, map}
 use Prim.Native.String.{String}
 use Rattle.facts.specs.declared.Refusal.{Refusal}
-use Rattle.facts.specs.declared.Refusal.the-variants.{Ends, Trailing, Range, Outside, Stray, Diagram, Short, Long, Blocked, Unmet, Missing, Width}
+use Rattle.facts.specs.declared.Refusal.the-variants.{Ends, Trailing, Range, Outside, Stray, Diagram, Short, Long, Blocked, Unmet, Missing, Width, Lacking}
 use Rattle.estimate.specs.declared.Est.the-variants.{Never, Over, Exact}
 use Rattle.text.specs.Text.{decimal}
 use Rattle.text.specs.Append.{bytes}
@@ -18,7 +18,7 @@ use Rattle.report.specs.Report.{refusalText, countText, estimateText, fa
 abbrev Said : {A : Type 0} → (A → List ℕ) → List (A × String) → Type 0
 Said said table = map (λ c. said (c .0)) table ≡ map (λ c. bytes (c .1)) table
 
--- "refused 2 at 40", by document 01's examples
+-- "refused 2 at 40", by document 01's examples, and 17
 refusals : Said refusalText (
     (Ends 0, "refused 1 at 0\n")
     ∷ (Trailing 40, "refused 2 at 40\n")
@@ -32,6 +32,7 @@ refusals : Said refusalText (
     ∷ (Unmet 0, "refused 10 at 0\n")
     ∷ (Missing 0, "refused 11 at 0\n")
     ∷ (Width 0, "refused 12 at 0\n")
+    ∷ (Lacking 2, "refused 17 at 2\n")
     ∷ [])
 unfolding decimal
 refusals = refl
@@ -71,6 +72,7 @@ any-subject : (subject : Subject) → Said (explanation subject) (
     ∷ (Blocked 1, "Entry 1 of the list, counted from 0, does not apply in the state that the entries before it lead to.\n")
     ∷ (Unmet 2, "After all 2 entries of the list the goal does not hold.\n")
     ∷ (Width 0, "There has to be one number for each variable.\n")
+    ∷ (Lacking 2, "The set of variable 2 lacks the value that the action needs there to apply.\n")
     ∷ [])
 unfolding decimal
 any-subject subject = refl

@@ -6,7 +6,7 @@ use mathlib.Core.List.{List, _++_}
 use lib.Dec.{eqb}
 use Rattle.facts.specs.Refusal.{number, place}
 use Rattle.facts.specs.declared.Refusal.{Refusal}
-use Rattle.facts.specs.declared.Refusal.the-variants.{Ends, Trailing, Range, Outside, Stray, Diagram, Short, Long, Blocked, Unmet, Missing, Width}
+use Rattle.facts.specs.declared.Refusal.the-variants.{Ends, Trailing, Range, Outside, Stray, Diagram, Short, Long, Blocked, Unmet, Missing, Width, Lacking}
 use Rattle.estimate.specs.declared.Est.{Est}
 use Rattle.estimate.specs.declared.Est.the-variants.{Never, Over, Exact}
 use Rattle.probefile.specs.Probe.{maxList}
@@ -104,3 +104,4 @@ explanation subject (Blocked p) = around "Entry " p " of the list, counted from 
 explanation subject (Unmet p) = around "After all " p " entries of the list the goal does not hold.\n"
 explanation subject (Missing p) = missingText subject p
 explanation subject (Width p) = bytes "There has to be one number for each variable.\n"
+explanation subject (Lacking p) = around "The set of variable " p " lacks the value that the action needs there to apply.\n"

@@ -1,8 +1,9 @@
-// Relaxed costs in place: the least cost of an action over the states of a relaxed state, by one pass over its nodes from the last to the first.
+// Relaxed costs in place: the least cost of an action over the states of a relaxed state that meet its precondition, by one pass over its nodes from the last to the first.
 use facts::Checked;
 use facts::Refusal;
 use facts::number::byte_at;
 use facts::number::offset_at;
+use narrow::narrow;
 use partial::stray;
 use taskfile::Costed;
 use taskfile::Task;
@@ -11,9 +12,9 @@ use walk::edge_for;
 use walk::own_nodes;
 ghost use mathlib.Core.Path.{_≡_};
 ghost use Prim.Native.Nat.{_+_, _*_, _≤_, min};
-ghost use lib.ListN.{getD};
+ghost use lib.ListN.{length, getD};
 ghost use Rattle.facts.specs.Answers.{checkedAnswer};
-ghost use Rattle.taskfile.specs.Task.{maxValues, maxNodes, maxWeight};
+ghost use Rattle.taskfile.specs.Task.{maxVariables, maxValues, maxNodes, maxWeight};
 ghost use Rattle.taskfile.specs.Index.{Ready};
 ghost use Rattle.taskfile.specs.PartsInPlace.{nodeIn, actionIn};
 ghost use Rattle.relaxation.specs.Relaxed.{SetInside};
@@ -21,12 +22,12 @@ ghost use Rattle.relaxation.specs.Pass.{leastAt};
 ghost use Rattle.relaxation.specs.RelaxedPass.{relaxedPass, relaxedByPass};
 ghost use Rattle.relaxation.specs.RelaxedInPlace.{costFor, greatest, Relaxable};
 ghost use Rattle.taskfile.specs.Answers.{costedAnswer};
-ghost use Rattle.relaxation.specs.RelaxedTask.{checkRelaxed, relaxedTask};
+ghost use Rattle.relaxation.specs.RelaxedTask.{checkRelaxed, relaxedIn, relaxedTask};
 
 // Above every cost.
 const TOP: u32 = 4294967295;
 
-// What an action of an accepted file costs at least over the states of a relaxed state: 11 for the number, then 12 and 4 for the sets.
+// The relaxed cost of an action of an accepted file: 11 for the number, then 12 and 4 for the sets, then 17.
 pub fn relaxed_in(
     file: &[u8],
     variables: usize,
@@ -47,8 +48,21 @@ pub fn relaxed_in(
         Checked::Refused(why) => Costed::Refused(why),
         Checked::Accepted => {
             let own = own_nodes(row, action);
-            Costed::Cost(relaxed_at(file, sizes, offset_at(row, action), &row[own..], sets))
+            met_at(file, sizes, offset_at(row, action), &row[own..], sets)
         }
+    }
+}
+
+// The relaxed cost of the action at an offset, whose own nodes begin at the offsets `nodes`: 17, and then one pass with the sets narrowed in a copy.
+fn met_at(file: &[u8], sizes: &[u8], at: usize, nodes: &[usize], sets: &[u8]) -> Costed
+    requires { ⌜ Relaxable (now file) (now sizes) at (now nodes) (now sets) × (length (now sets) ≤ maxVariables) ⌝ }
+    ensures { λ r. ⌜ costedAnswer r ≡ relaxedIn (actionIn (now (file .entry)) (now (sizes .entry)) at (now (nodes .entry))) (now (sets .entry)) ⌝ }
+{
+    let mut copy = [0; Task::MAX_VARIABLES];
+    let n = sets.len();
+    match narrow(file, at, sets, &mut copy[..n]) {
+        Checked::Refused(why) => Costed::Refused(why),
+        Checked::Accepted => Costed::Cost(relaxed_at(file, sizes, at, nodes, &copy[..n])),
     }
 }
 
@@ -72,8 +86,8 @@ fn check_sets(sizes: &[u8], sets: &[u8]) -> Checked
     Checked::Accepted
 }
 
-// The relaxed cost of the action at an offset, whose own nodes begin at the offsets `nodes`. Entry k of the table is the least from node k on; the
-// terminal's is 0.
+// The least cost of the action at an offset, whose own nodes begin at the offsets `nodes`, over all states in the sets. Entry k of the table is the least from
+// node k on; the terminal's is 0.
 fn relaxed_at(file: &[u8], sizes: &[u8], at: usize, nodes: &[usize], sets: &[u8]) -> u32
     requires { ⌜ Relaxable (now file) (now sizes) at (now nodes) (now sets) ⌝ }
     ensures { λ r. ⌜ r ≡ relaxedByPass (actionIn (now (file .entry)) (now (sizes .entry)) at (now (nodes .entry))) (now (sets .entry)) ⌝ }

@@ -45,7 +45,19 @@ fn main() {
     show_relaxed(xyz, 0, b"\x00\x06");
     show_relaxed(xyz, 0, b"\x03\x00\x04");
     show_relaxed(xyz, 0, b"\x03\x06\x04");
+    relaxed();
     estimates(p);
+}
+
+// Relaxed costs where the precondition counts: xy² + z + 2 with x = 1 and z = 1, and an action without nodes at 7 that needs the same.
+fn relaxed() {
+    let guarded =
+        b"\x03\x02\x03\x02\x00\x00\x00\x00\x00\x00\x00\x00\x00\x00\x00\x02\x05\x00\x00\x00\x00\x00\x00\x00\x01\x01\x01\x00\x00\x00\x00\x00\x00\x00\x00\x02\x00\x03\x00\x03\x00\x00\x02\x00\x00\x01\x03\x00\x00\x03\x01\x00\x03\x04\x00\x02\x04\x00\x00\x04\x01\x00\x05\x00\x00\x00\x00\x00\x00\x00\x01\x01\x01\x00\x00\x00\x00\x00\x00\x00\x00\x07\x00\x00";
+    show_relaxed(guarded, 0, b"\x03\x06\x03");
+    show_relaxed(guarded, 1, b"\x03\x06\x03");
+    show_relaxed(guarded, 0, b"\x01\x06\x01");
+    show_relaxed(guarded, 1, b"\x03\x06\x01");
+    show_relaxed(guarded, 0, b"\x01\x06\x00");
 }
 
 // Estimates: A=1 at 2-2B and B=1 at 1, then without the second action, then for B=1 without it; P, with refusals; the largest exact number, and over.

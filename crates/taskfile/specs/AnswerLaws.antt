@@ -1,13 +1,14 @@
 -- Laws of what the operations answer on an accepted file, by its index.
-use mathlib.Core.Path.{_≡_, sym, ap, _∙_}
+use mathlib.Core.Path.{_≡_, refl, sym, ap, _∙_}
+use mathlib.Core.Option.{Option, none, some}
 use Prim.Native.Nat.{ℕ, _+_, _*_, _≤_, _<_}
 use native.Mathlib.Omega.{arith}
 use mathlib.Core.List.{List, []}
-use lib.ListN.{length, getD, take, drop}
+use lib.ListN.{length, getD, getElem?, take, drop}
 use Rattle.facts.specs.Read.{Read, accepted, refused, _>>=_}
-use Rattle.facts.specs.ReadLaws.{made, not-made}
+use Rattle.facts.specs.ReadLaws.{not-refused, through, made, not-made}
 use Rattle.facts.specs.Lists.{At}
-use Rattle.facts.specs.ListLaws.{at-getD, look, look-none}
+use Rattle.facts.specs.ListLaws.{at-getD, look, look-none, found}
 use Rattle.facts.specs.Partial.{partialAt}
 use Rattle.facts.specs.State.{checkState}
 use Rattle.facts.specs.StateLaws.{state-inside}
@@ -25,7 +26,7 @@ use Rattle.taskfile.specs.InPlace.{taskAt}
 use Rattle.taskfile.specs.Index.{Ready}
 
 -- what the file's refusal does to the operations
-pub ask-refused : (checked : List ℕ → List ℕ → Read (Unit {0})) (answer : Action → List ℕ → ℕ) (f : List ℕ) (a : ℕ) (s : List ℕ) {n p : ℕ} → checkTask f ≡ refused n p
+pub ask-refused : {A : Type 0} (checked : List ℕ → List ℕ → Read (Unit {0})) (answer : Action → List ℕ → A) (f : List ℕ) (a : ℕ) (s : List ℕ) {n p : ℕ} → checkTask f ≡ refused n p
     → askTask checked answer f a s ≡ refused n p
 unfolding checkTask askTask
 ask-refused checked answer f a s h = rw (not-made (λ (t : Task). tt) (readTask f) h)
@@ -33,6 +34,37 @@ ask-refused checked answer f a s h = rw (not-made (λ (t : Task). tt) (readTask 
 pub run-refused : (f list : List ℕ) {n p : ℕ} → checkTask f ≡ refused n p → runTask f list ≡ refused n p
 unfolding checkTask runTask
 run-refused f list h = rw (not-made (λ (t : Task). tt) (readTask f) h)
+
+-- the action of a number is the one that is there
+pub action-there : {actions : List Action} {a : ℕ} {x : Action} → At actions a x → actionOf actions a ≡ accepted x
+unfolding actionOf
+action-there h = rw (look h, actionOf)
+
+pub action-found : (actions : List Action) (a : ℕ) {x : Action} → actionOf actions a ≡ accepted x → At actions a x
+unfolding actionOf
+action-found actions a {x} h = go (getElem? actions a) refl h
+  where
+    go : (o : Option Action) → getElem? actions a ≡ o → elim o as (λ o. Read Action) [ none ↦ refused 11 0 | some y ↦ accepted y ] ≡ accepted x → At actions a x
+    go none e h = absurd (not-refused h)
+    go (some y) e h = let is : y ≡ x = cc in rw is at (found actions a e)
+
+-- what is answered about an action of an accepted file
+pub record Asked {A : Type 0} (checked : List ℕ → List ℕ → Read (Unit {0})) (answer : Action → List ℕ → A) (f : List ℕ) (a : ℕ) (s : List ℕ) (y : A) : Type 0 where
+  pub task : Task
+  pub reads : readTask f ≡ accepted task
+  pub action : Action
+  pub found : At (task .actions) a action
+  pub good : checked (task .sizes) s ≡ accepted tt
+  pub is : answer action s ≡ y
+
+pub ask-accepted : {A : Type 0} (checked : List ℕ → List ℕ → Read (Unit {0})) (answer : Action → List ℕ → A) (f : List ℕ) (a : ℕ) (s : List ℕ) {y : A}
+    → askTask checked answer f a s ≡ accepted y → Asked checked answer f a s y
+unfolding askTask
+ask-accepted checked answer f a s h =
+    let t = through (readTask f) h in
+    let x = through (actionOf (t .got .actions) a) (t .then) in
+    let u = through (checked (t .got .sizes) s) (x .then) in
+    record { task = t .got; reads = t .first; action = x .got; found = action-found (t .got .actions) a (x .first); good = u .first; is = let e = u .then in cc }
 
 module _ (f : List ℕ) {n count : ℕ} {row : List ℕ} (ready : Ready f n count row) where
   -- the task that is there
@@ -85,7 +117,7 @@ module _ (f : List ℕ) {n count : ℕ} {row : List ℕ} (ready : Ready f n coun
   unfolding actionOf
   action-missing a l = rw (look-none (t .actions) a (omega (arith, there .actions)), actionOf)
 
-  module _ (checked : List ℕ → List ℕ → Read (Unit {0})) (answer : Action → List ℕ → ℕ) (a : ℕ) (s : List ℕ) where
+  module _ {A : Type 0} (checked : List ℕ → List ℕ → Read (Unit {0})) (answer : Action → List ℕ → A) (a : ℕ) (s : List ℕ) where
     pub ask-missing : count ≤ a → askTask checked answer f a s ≡ refused 11 0
     unfolding askTask
     ask-missing l = rw (there .reads) (ap (λ (r : Read Action). _>>=_ r (λ x. _>>=_ (checked (t .sizes) s) (λ u. accepted (answer x s)))) (action-missing a l))
@@ -101,8 +133,7 @@ module _ (f : List ℕ) {n count : ℕ} {row : List ℕ} (ready : Ready f n coun
       x-there = at-getD (t .actions) a none-such (omega (arith, there .actions))
 
       x-is : actionOf (t .actions) a ≡ accepted x
-      unfolding actionOf
-      x-is = rw (look x-there, actionOf)
+      x-is = action-there x-there
 
       module _ {k : ℕ} (e : k ≡ n) where
         pub ask-state : {n p : ℕ} → checked (take k (drop 1 f)) s ≡ refused n p → askTask checked answer f a s ≡ refused n p
@@ -110,7 +141,7 @@ module _ (f : List ℕ) {n count : ℕ} {row : List ℕ} (ready : Ready f n coun
         ask-state h = rw (there .reads, x-is, ap (λ (ds : List ℕ). checked ds s) (sym (sizes-there e)) ∙ h)
 
         -- the answer is what it is for the action that is there
-        pub ask-is : {u : Unit {0}} {c : ℕ} → checked (take k (drop 1 f)) s ≡ accepted u
+        pub ask-is : {u : Unit {0}} {c : A} → checked (take k (drop 1 f)) s ≡ accepted u
             → ((x : Action) → At (t .actions) a x → checked (t .sizes) s ≡ accepted u → c ≡ answer x s) → askTask checked answer f a s ≡ accepted c
         unfolding askTask
         ask-is {u} h is =

@@ -115,7 +115,7 @@ unfoldable pub actionOf : List Action → ℕ → Read Action
 actionOf actions a = elim (getElem? actions a) [ none ↦ refused 11 0 | some x ↦ accepted x ]
 
 -- What is asked about action number a with the state s, or with sets of values: 1 to 6 for the file, 11 for the number, and then what refuses the state.
-unfoldable pub askTask : (List ℕ → List ℕ → Read (Unit {0})) → (Action → List ℕ → ℕ) → List ℕ → ℕ → List ℕ → Read ℕ
+unfoldable pub askTask : {A : Type 0} → (List ℕ → List ℕ → Read (Unit {0})) → (Action → List ℕ → A) → List ℕ → ℕ → List ℕ → Read A
 askTask checked answer f a s = do
   t ← readTask f
   x ← actionOf (t .actions) a

@@ -1,16 +1,15 @@
 -- Laws of values in a file: where the value of a variable lies.
-use mathlib.Core.Path.{_≡_, sym, ap, _∙_}
+use mathlib.Core.Path.{_≡_, refl, sym, ap, ap₂, _∙_}
 use mathlib.Core.Logic.{_↔_}
 use mathlib.Core.Bool.{true}
 use mathlib.Core.Option.{Option, none, some}
-use mathlib.Core.List.{List}
-use Prim.Native.Nat.{ℕ, _+_, _%_, _^_, _≤_, _<_}
+use mathlib.Core.List.{List, [], _∷_}
+use Prim.Native.Nat.{ℕ, zero, suc, _+_, _%_, _^_, _≤_, _<_}
 use native.Mathlib.Nat.{div-eq-of-lt, lt-of-lt-of-le}
 use native.Mathlib.Omega.{arith}
 use lib.Count.{ones}
-use lib.ListN.{length, take, drop, getD, getElem?, length-take, length-drop}
+use lib.ListN.{length, take, drop, getD, getElem?}
 use lib.Pow.{pow-mono}
-use lib.Seq.{getD-take, getD-drop}
 use Rattle.facts.specs.Read.{accepted}
 use Rattle.facts.specs.ListLaws.{look, look-none, at-getD}
 use Rattle.facts.specs.Fields.{readPartial}
@@ -20,44 +19,58 @@ use Rattle.facts.specs.PartialReadLaws.{partial-read}
 use Rattle.value.specs.Value.{valueOf, bitOf, lowerStanding}
 use Rattle.value.specs.ValueLaws.{lower-within, place-counts, ifStands, value-counted, Agreeing, holds-exactly}
 
--- ---- the partial state of a map m whose values begin 8 bytes past an offset
+-- ---- the partial state of a map m whose values begin at an offset
+
+look-take : (k : ℕ) (xs : List ℕ) (n : ℕ) → n < k → getElem? (take k xs) n ≡ getElem? xs n
+look-take zero xs n l = absurd (omega arith)
+look-take (suc k) [] n l = refl
+look-take (suc k) (x ∷ xs) zero l = refl
+look-take (suc k) (x ∷ xs) (suc n) l = look-take k xs n (omega arith)
+
+look-drop : (k : ℕ) (xs : List ℕ) (n q : ℕ) → q ≡ k + n → getElem? (drop k xs) n ≡ getElem? xs q
+look-drop zero xs n q e = let z : n ≡ q = omega arith in ap (getElem? xs) z
+look-drop (suc k) [] n q e = refl
+look-drop (suc k) (x ∷ xs) n zero e = absurd (omega arith)
+look-drop (suc k) (x ∷ xs) n (suc q) e = look-drop k xs n q (omega arith)
+
+if-standing : (b : ℕ) {o p : Option ℕ} → (0 < b → o ≡ p) → ifStands b o ≡ ifStands b p
+if-standing zero h = refl
+if-standing (suc b) h = h (omega arith)
+
+-- a variable's value comes after as many as there are lower standing bits, if its bit stands and the file goes on
+pub value-from : (f : List ℕ) (m from v : ℕ) → valueOf (standingAt f m from) v ≡ ifStands (bitOf m v) (getElem? f (from + lowerStanding m v))
+unfolding standingAt
+value-from f m from v =
+    let n = lowerStanding m v in
+    value-counted (standingAt f m from) v ∙ if-standing (bitOf m v) (λ stands. look-take (ones m) (drop from f) n (omega (arith, lower-within m v)) ∙ look-drop from f n (from + n) refl)
+
+-- ---- the same, where the values begin 8 bytes past an offset
 
 module _ (f : List ℕ) (m at v : ℕ) where
-  abbrev values : List ℕ
-  values = take (ones m) (drop (at + 8) f)
-
   abbrev here : Option ℕ
   here = valueOf (standingAt f m (at + 8)) v
 
-  by-count : here ≡ ifStands (bitOf m v) (getElem? values (lowerStanding m v))
-  unfolding standingAt
-  by-count = value-counted (standingAt f m (at + 8)) v
-
   -- the bit does not stand
   pub value-clear : bitOf m v ≡ 0 → here ≡ none
-  value-clear e = by-count ∙ ap (λ (b : ℕ). ifStands b (getElem? values (lowerStanding m v))) e
+  value-clear e = value-from f m (at + 8) v ∙ ap (λ (b : ℕ). ifStands b (getElem? f (at + 8 + lowerStanding m v))) e
 
   -- no bit of a map of 64 bits stands from 64 on
   pub value-beyond : m < 2 ^ 64 → 64 ≤ v → here ≡ none
   value-beyond h l = value-clear (ap (λ (x : ℕ). x % 2) (div-eq-of-lt (lt-of-lt-of-le h (pow-mono l))))
 
   module _ (stands : bitOf m v ≡ 1) {place : ℕ} (e : place ≡ valuePlace m v) where
-    standing : here ≡ getElem? values (lowerStanding m v)
-    standing = by-count ∙ ap (λ (b : ℕ). ifStands b (getElem? values (lowerStanding m v))) stands
+    standing : here ≡ getElem? f (at + place)
+    standing =
+        let same : at + 8 + lowerStanding m v ≡ at + place = omega (arith, e, place-counts m v) in
+        value-from f m (at + 8) v ∙ ap₂ (λ (b k : ℕ). ifStands b (getElem? f k)) stands same
 
     -- the bit stands, and the file goes on
     pub value-there : at + place < length f → here ≡ some (getD f (at + place) 0)
-    value-there l =
-        let n = lowerStanding m v in
-        let less : n < ones m = omega (arith, lower-within m v) in
-        let same : at + 8 + n ≡ at + place = omega (arith, e, place-counts m v) in
-        standing ∙ look (at-getD values n 0 (omega (arith, length-take (ones m) (drop (at + 8) f), length-drop (at + 8) f)))
-        ∙ ap some (getD-take (ones m) (drop (at + 8) f) n 0 less ∙ getD-drop (at + 8) f n 0 ∙ ap (λ (k : ℕ). getD f k 0) same)
+    value-there l = standing ∙ look (at-getD f (at + place) 0 l)
 
     -- or it ends before
     pub value-cut : length f ≤ at + place → here ≡ none
-    value-cut l =
-        standing ∙ look-none values (lowerStanding m v) (omega (arith, e, place-counts m v, length-take (ones m) (drop (at + 8) f), length-drop (at + 8) f))
+    value-cut l = standing ∙ look-none f (at + place) l
 
 -- ---- a partial state that is read
 

@@ -19,7 +19,7 @@ use Rattle.value.specs.Value.{firstValue, valueOf, bitOf, lowerStanding}
 
 -- ---- the lower standing bits of a map
 
-halved : (m v : ℕ) → m / 2 / 2 ^ v ≡ m / 2 ^ suc v
+pub halved : (m v : ℕ) → m / 2 / 2 ^ v ≡ m / 2 ^ suc v
 halved m v = shr-shr m 1 v ∙ ap (λ (k : ℕ). m / 2 ^ k) (omega arith)
 
 -- the lowest bit, and those above it

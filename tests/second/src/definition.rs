@@ -44,16 +44,20 @@ fn count(choices: &[(usize, Vec<u8>)]) -> usize {
     choices.iter().fold(1, |all: usize, (_, values)| all.saturating_mul(values.len()))
 }
 
-/// The least cost over all states whose every value is in the sets, where these are few; the sets and the action number are right.
+/// The least cost over all states whose every value is in the sets and that meet the precondition, where those in the sets are few; the sets and the action number
+/// are right, and there is such a state.
 pub fn relaxed_cost(task: &TaskModel, action: usize, sets: &[u8]) -> Option<u32> {
     let choices: Vec<_> =
         sets.iter().map(|set| (0..8).filter(|value| set >> value & 1 == 1).collect()).enumerate().collect();
     if count(&choices) > MOST_VALUATIONS {
         return None;
     }
+    let action = &task.actions[action];
     let mut least = u32::MAX;
     valuations(&choices, sets.len(), &mut |state| {
-        least = least.min(task.actions[action].cost(state).0);
+        if holds(&action.precondition, state) {
+            least = least.min(action.cost(state).0);
+        }
     });
     Some(least)
 }

@@ -46,9 +46,27 @@ impl Random {
         sizes.iter().map(|&size| self.value(size)).collect()
     }
 
-    /// A set of values, not empty, for each domain size of at most 8.
-    pub fn sets(&mut self, sizes: &[u8]) -> Vec<u8> {
-        sizes.iter().map(|&size| 1 + self.below((1 << size) - 1) as u8).collect()
+    /// A set of values for each domain size of at most 8, with the value that a state has, and for none, half or most of the variables with no other.
+    pub fn sets_with(&mut self, state: &[u8], sizes: &[u8]) -> Vec<u8> {
+        let alone = self.pick(&[0, 50, 90]);
+        let mut others = |size: u8| if self.chance(alone) { 0 } else { self.below(1 << size) as u8 };
+        state.iter().zip(sizes).map(|(value, &size)| 1 << value | others(size)).collect()
+    }
+
+    /// What is left of a set without a value, or another value of the domain where nothing is.
+    pub fn set_without(&mut self, value: u8, set: u8, size: u8) -> u8 {
+        match set & !(1 << value) {
+            0 => 1 << ((value + 1 + self.value(size - 1)) % size),
+            left => left,
+        }
+    }
+
+    /// A set that is empty, or, where the domain leaves room for it, has a stray bit.
+    pub fn wrong_set(&mut self, set: u8, size: u8) -> u8 {
+        match self.pick(&[0, Task::VALUES - size]) {
+            0 => 0,
+            room => set | 1 << (size + self.value(room)),
+        }
     }
 
     /// A value of a domain.
@@ -57,7 +75,7 @@ impl Random {
     }
 
     /// Facts of some of the variables.
-    fn facts(&mut self, sizes: &[u8], percent: usize) -> Facts {
+    pub fn facts(&mut self, sizes: &[u8], percent: usize) -> Facts {
         let mut facts = Facts::new();
         for (&size, variable) in sizes.iter().zip(0..) {
             if self.chance(percent) {
@@ -86,6 +104,7 @@ pub struct Shape {
     pub nodes: (usize, usize),
 }
 
+pub const TINY: Shape = Shape { variables: (1, 3), values: (2, 3), actions: (1, 3), nodes: (0, 6) };
 pub const SMALL: Shape = Shape { variables: (1, 4), values: (2, 4), actions: (1, 5), nodes: (0, 8) };
 pub const TYPICAL: Shape = Shape { variables: (4, 12), values: (2, 5), actions: (4, 16), nodes: (4, 40) };
 pub const LARGE: Shape =
@@ -96,6 +115,9 @@ pub const LIMITS: Shape = Shape {
     actions: (ACTIONS, ACTIONS),
     nodes: (Task::NODES, Task::NODES),
 };
+/// Few actions of many nodes.
+pub const DIAGRAMS: Shape =
+    Shape { variables: (VARIABLES, VARIABLES), values: (2, VALUES), actions: (1, 4), nodes: (40, Task::NODES) };
 
 const VARIABLES: usize = Task::VARIABLES as usize;
 const VALUES: usize = Task::VALUES as usize;

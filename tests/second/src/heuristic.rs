@@ -1,7 +1,7 @@
 //! Relaxed costs and the additive heuristic, each by one pass over the nodes of a diagram: targets only go up.
 
-use crate::parts::{edge, Action, Node, PartialState, Probe, Task, EDGE};
-use crate::refusal::Answer;
+use crate::parts::{edge, state_of, Action, Node, PartialState, Probe, State, Task, EDGE};
+use crate::refusal::{Answer, Reason};
 use crate::running::read_action;
 
 /// An estimate.
@@ -36,22 +36,25 @@ const NEVER: u64 = 1 << 40;
 /// The one number that stands for all that are over.
 const OVER: u64 = 1 << 32;
 
-/// The least cost of an action over all states whose every value is in the sets.
+/// The least cost of an action over all states whose every value is in the sets and that meet its precondition.
 pub fn relaxed_cost(file: &[u8], action: u64, sets: &[u8]) -> Answer<u32> {
     let (head, action) = read_action(file, action)?;
     head.check_state(sets, |set, size| set != 0 && u32::from(set) >> size == 0)?;
-    let least = least_path(
-        &action,
-        action.nodes(head.sizes),
-        |variable, value| {
-            if sets[variable] >> value & 1 == 1 {
-                0
-            } else {
-                NEVER
-            }
-        },
-    );
-    Ok(least as u32)
+    let sets = narrowed(sets, action.operator.precondition)?;
+    let added = |variable: usize, value| if sets[variable] >> value & 1 == 1 { 0 } else { NEVER };
+    Ok(least_path(&action, action.nodes(head.sizes), added) as u32)
+}
+
+/// The sets with a precondition's value alone for each of its variables; else 17, at the lowest variable whose set lacks it.
+fn narrowed(sets: &[u8], precondition: PartialState) -> Answer<State> {
+    let mut sets = state_of(sets);
+    for (variable, value) in precondition.facts() {
+        sets[variable] &= 1 << value;
+        if sets[variable] == 0 {
+            return Reason::Lacking.at(variable);
+        }
+    }
+    Ok(sets)
 }
 
 /// The estimate of a task's goal from a state.

@@ -86,12 +86,17 @@ impl<'a> PartialState<'a> {
     }
 }
 
+/// One byte per variable, as a state has them.
+pub fn state_of(bytes: &[u8]) -> State {
+    let mut state = [0; 64];
+    state[..bytes.len()].copy_from_slice(bytes);
+    state
+}
+
 impl Head<'_> {
     /// The state that runs begin in.
     pub fn initial_state(&self) -> State {
-        let mut state = [0; 64];
-        state[..self.initial.len()].copy_from_slice(self.initial);
-        state
+        state_of(self.initial)
     }
 
     /// Whether there is one byte per variable, each good for its domain size; else 12, or 4 at the lowest bad variable.

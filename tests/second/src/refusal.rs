@@ -1,9 +1,9 @@
-//! Refusals: a number of the document's table, and a place.
+//! Refusals: a number of document 01's table or of document 02, and a place.
 
 /// What an operation answers: its result, or a refusal.
 pub type Answer<T> = Result<T, Refusal>;
 
-/// Why an input is turned down; the cases have the numbers of the document's table.
+/// Why an input is turned down; the cases have the documents' numbers.
 #[derive(Clone, Copy, Debug, PartialEq, Eq)]
 #[repr(u8)]
 pub enum Reason {
@@ -19,6 +19,7 @@ pub enum Reason {
     GoalNotMet,
     NoSuchStep,
     StateLength,
+    Lacking = 17,
 }
 
 /// A refusal: why, and the file offset, index, variable, length or limit that goes with it.

@@ -1,4 +1,5 @@
-//! Tasks and probe files that are made for one purpose: the document's own, the longest, and those whose estimates are near the limit.
+//! Tasks and probe files that are made for one purpose: the document's own, the longest, those whose preconditions raise a relaxed cost, and those whose estimates
+//! are near the limit.
 
 use crate::model::{ActionModel, Facts, NodeModel, ProbeModel, StepModel, TaskModel};
 use crate::parts::{Probe, Task};
@@ -72,6 +73,19 @@ pub fn long_path(values: u8) -> TaskModel {
             ..ActionModel::default()
         }],
     }
+}
+
+/// The longest path with weights that grow with the value, and the greatest value of so many variables in the precondition: each of these adds 7 to the least cost.
+pub fn narrowed_path(facts: u8) -> TaskModel {
+    let mut task = long_path(Task::VALUES);
+    let action = &mut task.actions[0];
+    action.precondition = all(facts, Task::VALUES - 1);
+    for node in &mut action.nodes {
+        for (edge, value) in node.edges.iter_mut().zip(0..) {
+            edge.1 = value;
+        }
+    }
+    task
 }
 
 /// Levels of facts, two a level, each action from one level to the next: the numbers are 65,535 and then twice the last and `added`.

@@ -5,11 +5,11 @@ use Rattle.facts.specs.RefusalLaws.{with-key, with-none}
 use Rattle.facts.proofs.refusal_with.Statement.{statement}
 use Rattle.facts.proofs.refusal_with.Tie as tie
 
-returns-13 : tie.Need-returns-13
-returns-13 c =
+returns-14 : tie.Need-returns-14
+returns-14 c =
     let a = c .before .args in
     let r = c .match .rest in
-    sym (with-none (a .number) (a .place) (ne-eqb (a .number) 1 (r .0 .0 .0 .0 .0 .0 .0 .0 .0 .0 .0 .1), (ne-eqb (a .number) 2 (r .0 .0 .0 .0 .0 .0 .0 .0 .0 .0 .1), (ne-eqb (a .number) 3 (r .0 .0 .0 .0 .0 .0 .0 .0 .0 .1), (ne-eqb (a .number) 4 (r .0 .0 .0 .0 .0 .0 .0 .0 .1), (ne-eqb (a .number) 5 (r .0 .0 .0 .0 .0 .0 .0 .1), (ne-eqb (a .number) 6 (r .0 .0 .0 .0 .0 .0 .1), (ne-eqb (a .number) 7 (r .0 .0 .0 .0 .0 .1), (ne-eqb (a .number) 8 (r .0 .0 .0 .0 .1), (ne-eqb (a .number) 9 (r .0 .0 .0 .1), (ne-eqb (a .number) 10 (r .0 .0 .1), (ne-eqb (a .number) 11 (r .0 .1), (ne-eqb (a .number) 12 (r .1), tt)))))))))))))
+    sym (with-none (a .number) (a .place) (ne-eqb (a .number) 1 (r .0 .0 .0 .0 .0 .0 .0 .0 .0 .0 .0 .0 .1), (ne-eqb (a .number) 2 (r .0 .0 .0 .0 .0 .0 .0 .0 .0 .0 .0 .1), (ne-eqb (a .number) 3 (r .0 .0 .0 .0 .0 .0 .0 .0 .0 .0 .1), (ne-eqb (a .number) 4 (r .0 .0 .0 .0 .0 .0 .0 .0 .0 .1), (ne-eqb (a .number) 5 (r .0 .0 .0 .0 .0 .0 .0 .0 .1), (ne-eqb (a .number) 6 (r .0 .0 .0 .0 .0 .0 .0 .1), (ne-eqb (a .number) 7 (r .0 .0 .0 .0 .0 .0 .1), (ne-eqb (a .number) 8 (r .0 .0 .0 .0 .0 .1), (ne-eqb (a .number) 9 (r .0 .0 .0 .0 .1), (ne-eqb (a .number) 10 (r .0 .0 .0 .1), (ne-eqb (a .number) 11 (r .0 .0 .1), (ne-eqb (a .number) 12 (r .0 .1), (ne-eqb (a .number) 17 (r .1), tt))))))))))))))
 
 pub refusal-with-spec : {M : Type 1} → statement M
 refusal-with-spec =
@@ -27,4 +27,5 @@ refusal-with-spec =
     (λ c. with-key _ (c .match .keys10))
     (λ c. with-key _ (c .match .keys11))
     (λ c. with-key _ (c .match .keys12))
-    returns-13)
+    (λ c. with-key _ (c .match .keys13))
+    returns-14)

@@ -4,8 +4,8 @@ use native.Mathlib.Omega.{arith}
 use Rattle.taskfile.specs.Answers.{countedAnswer}
 use Rattle.taskfile.specs.TaskIndexLaws.{index-ready, index-refused}
 use Rattle.taskfile.specs.AnswerLaws.{ask-refused}
-use Rattle.relaxation.specs.Relaxed.{relaxedCost}
 use Rattle.relaxation.specs.RelaxedTask.{checkRelaxed}
+use Rattle.relaxation.specs.RelaxedTaskLaws.{asked-refused}
 use borrow.Author.Needs.{needs}
 use Rattle.task_relaxed.proofs.relaxed_cost.Statement.{statement}
 use Rattle.task_relaxed.proofs.relaxed_cost.Tie as tie
@@ -16,7 +16,7 @@ relaxed-in-requires c κs =
     index-ready _ (i .0) (i .1) (ap countedAnswer (c .before .before .variables .given .1)) (omega (arith, c .before .before .before .before .row2 .given))
 
 returns : tie.Need-returns
-returns c = sym (ask-refused checkRelaxed relaxedCost _ _ _ (index-refused _ (sym (c .before .before .before .before .index-in .ensures .0) ∙ ap countedAnswer (c .before .why .given .1))))
+returns c = sym (asked-refused _ _ _ (ask-refused checkRelaxed (λ x sets. x) _ _ _ (index-refused _ (sym (c .before .before .before .before .index-in .ensures .0) ∙ ap countedAnswer (c .before .why .given .1)))))
 
 pub relaxed-cost-spec : {M : Type 1} → statement M
 relaxed-cost-spec =

@@ -79,10 +79,12 @@ fn print_header(title: &str) {
     println!("{:<15}{:<44}{:>12}{:>12}{:>8}", "operation", "input", "ns library", "ns Rust", "ratio");
 }
 
-/// Times a call and prints its row.
+/// Times a call that is not refused, and prints its row.
 fn row(call: &Call, input: &str) {
     let mut library_out = (vec![0; Task::COMPILED_BYTES], vec![0; Probe::LIST]);
     let mut second_out = library_out.clone();
+    let answer = call::second(call, &mut second_out.0, &mut second_out.1);
+    assert_eq!(call::number(answer), 0, "{call}\n{}", call::in_words(answer));
     let [first, other] =
         medians([&mut || library(black_box(call), &mut library_out.0, &mut library_out.1), &mut || {
             call::second(black_box(call), &mut second_out.0, &mut second_out.1)
@@ -135,7 +137,7 @@ fn every_operation(input: &Input) {
     let (length, _) = second::expand(file, list, &mut steps).expect("a plan");
     steps.truncate(length);
     let state = &file[1 + usize::from(file[0])..][..usize::from(file[0])];
-    let sets: Vec<u8> = file[1..=state.len()].iter().map(|&size| u8::MAX >> (8 - size)).collect();
+    let sets = full_sets(&file[1..=state.len()]);
     let mut probe_state = state.to_vec();
     probe_state.resize(usize::from(probe[0]), 0);
     let calls = [
@@ -157,6 +159,11 @@ fn every_operation(input: &Input) {
             copy_row(&probe);
         }
     }
+}
+
+/// The sets with all values.
+fn full_sets(sizes: &[u8]) -> Vec<u8> {
+    sizes.iter().map(|&size| u8::MAX >> (Task::VALUES - size)).collect()
 }
 
 /// An input's name with the lengths that matter.
@@ -196,7 +203,7 @@ fn longest_probe() {
     }
 }
 
-/// Times how the cost grows with actions, with nodes and with the length of a list.
+/// Times how the cost grows with actions, with nodes, with the length of a list and with the facts of a precondition.
 fn growth() {
     print_header("growth with actions (8 variables of 4 values, no nodes)");
     for actions in [1, 2, 4, 8, 16, 32] {
@@ -218,6 +225,17 @@ fn growth() {
         row(&Call::on(Operation::RunTask, &file).list(&list), &name);
         row(&expanded, &name);
         row(&Call::on(Operation::Contract, &file).list(&steps), &name);
+    }
+    narrowed();
+}
+
+/// Times relaxed costs where the precondition narrows the sets of so many variables to one value of eight.
+fn narrowed() {
+    print_header("growth with the precondition (24 variables of 8 values, a node each)");
+    for facts in [0, 1, 6, 12, 24] {
+        let task = special::narrowed_path(facts);
+        let (file, sets) = (task.bytes(), full_sets(&task.sizes));
+        row(&Call::on(Operation::RelaxedCost, &file).state(&sets), &format!("{facts} facts"));
     }
 }
 

@@ -17,13 +17,13 @@ abbrev μ-loop : tie.MeasureT-loop
 μ-loop sizes state v₀ v = length sizes - v
 
 returns-2 : tie.Need-returns-2 Inv-loop μ-loop
-returns-2 c = let l = c .before .before .before .before .loop in sym (l .inv .2 ∙ values-outside (λ d x. ltb x d) _ _ (l .v) (omega arith) (omega arith) (le-ltb _ _ (c .if2 .taken)))
+returns-2 c = let l = c .before .before .before .before .loop in sym (l .inv .2 ∙ values-outside 4 (λ d x. ltb x d) _ _ (l .v) (omega arith) (omega arith) (le-ltb _ _ (c .if2 .taken)))
 
 loop-again : tie.Need-loop-again Inv-loop μ-loop
-loop-again c = let l = c .before .before .before .before .loop in (omega arith, l .inv .1, l .inv .2 ∙ values-on (λ d x. ltb x d) _ _ (l .v) (omega arith) (omega arith) (lt-ltb _ _ (c .if2 .left)))
+loop-again c = let l = c .before .before .before .before .loop in (omega arith, l .inv .1, l .inv .2 ∙ values-on 4 (λ d x. ltb x d) _ _ (l .v) (omega arith) (omega arith) (lt-ltb _ _ (c .if2 .left)))
 
 returns-3 : tie.Need-returns-3 Inv-loop μ-loop
-returns-3 c = let l = c .before .loop in sym (l .inv .2 ∙ values-all (λ d x. ltb x d) _ _ (l .v) (c .loop-test .left))
+returns-3 c = let l = c .before .loop in sym (l .inv .2 ∙ values-all 4 (λ d x. ltb x d) _ _ (l .v) (c .loop-test .left))
 
 pub check-state-spec : {M : Type 1} → statement M
 check-state-spec =

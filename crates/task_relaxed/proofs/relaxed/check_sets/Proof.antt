@@ -20,7 +20,7 @@ abbrev μ-loop : tie.MeasureT-loop
 μ-loop sizes sets v₀ v = length sizes - v
 
 returns-2 : tie.Need-returns-2 Inv-loop μ-loop
-returns-2 c = let l = c .before .before .before .loop in sym (l .inv .2 ∙ values-outside goodSet _ _ (l .v) (omega arith) (omega arith) (set-empty _ _ (c .if2 .taken)))
+returns-2 c = let l = c .before .before .before .loop in sym (l .inv .2 ∙ values-outside 4 goodSet _ _ (l .v) (omega arith) (omega arith) (set-empty _ _ (c .if2 .taken)))
 
 returns-3 : tie.Need-returns-3 Inv-loop μ-loop
 returns-3 c =
@@ -28,7 +28,7 @@ returns-3 c =
     let a = c .before .before .before .before .before .before .before .before .before .before .before .args in
     let size = getD (now (a .sizes)) (l .v) 0 in
     let set = getD (now (a .sets)) (l .v) 0 in
-    sym (l .inv .2 ∙ values-outside goodSet _ _ (l .v) (omega arith) (omega arith) (set-stray size set (leb-true (2 ^ size) set (sym (c .before .stray .ensures) ∙ c .if3 .taken))))
+    sym (l .inv .2 ∙ values-outside 4 goodSet _ _ (l .v) (omega arith) (omega arith) (set-stray size set (leb-true (2 ^ size) set (sym (c .before .stray .ensures) ∙ c .if3 .taken))))
 
 loop-again : tie.Need-loop-again Inv-loop μ-loop
 loop-again c =
@@ -36,10 +36,10 @@ loop-again c =
     let a = c .before .before .before .before .before .before .before .before .before .before .before .args in
     let size = getD (now (a .sizes)) (l .v) 0 in
     let set = getD (now (a .sets)) (l .v) 0 in
-    (omega arith, l .inv .1, l .inv .2 ∙ values-on goodSet _ _ (l .v) (omega arith) (omega arith) (set-good size set (c .before .before .before .before .if2 .left) (leb-false (2 ^ size) set (sym (c .before .stray .ensures) ∙ c .if3 .left))))
+    (omega arith, l .inv .1, l .inv .2 ∙ values-on 4 goodSet _ _ (l .v) (omega arith) (omega arith) (set-good size set (c .before .before .before .before .if2 .left) (leb-false (2 ^ size) set (sym (c .before .stray .ensures) ∙ c .if3 .left))))
 
 returns-4 : tie.Need-returns-4 Inv-loop μ-loop
-returns-4 c = let l = c .before .loop in sym (l .inv .2 ∙ values-all goodSet _ _ (l .v) (c .loop-test .left))
+returns-4 c = let l = c .before .loop in sym (l .inv .2 ∙ values-all 4 goodSet _ _ (l .v) (c .loop-test .left))
 
 pub check-sets-spec : {M : Type 1} → statement M
 check-sets-spec =

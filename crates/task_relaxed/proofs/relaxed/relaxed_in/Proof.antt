@@ -6,9 +6,8 @@ use Rattle.facts.specs.Answers.{checkedAnswer}
 use Rattle.taskfile.specs.Row.{ownFrom}
 use Rattle.taskfile.specs.MoveInPlaceLaws.{own-nodes}
 use Rattle.taskfile.specs.AnswerLaws.{starts, sizes-there, ask-missing, ask-state, ask-is}
-use Rattle.relaxation.specs.Relaxed.{relaxedCost}
 use Rattle.relaxation.specs.RelaxedTask.{checkRelaxed}
-use Rattle.relaxation.specs.RelaxedTaskLaws.{relaxed-inside, relaxable, relaxed-in-place}
+use Rattle.relaxation.specs.RelaxedTaskLaws.{relaxed-inside, relaxable, action-in-place, asked-refused, asked-is, sets-few}
 use borrow.Author.Needs.{needs}
 use native.Mathlib.Omega.{arith}
 use Rattle.task_relaxed.proofs.relaxed.relaxed_in.Statement.{statement}
@@ -19,20 +18,24 @@ same : (c : tie.Start) → 1 + c .args .variables - 1 ≡ c .args .variables
 same c = omega arith
 
 returns : tie.Need-returns
-returns c = let s = c .before .before .before .before in sym (ask-missing (now (s .args .file)) (s .pre) checkRelaxed relaxedCost (s .args .action) (now (s .args .sets)) (c .if1 .taken))
+returns c = let s = c .before .before .before .before in sym (asked-refused _ _ _ (ask-missing (now (s .args .file)) (s .pre) checkRelaxed (λ x sets. x) (s .args .action) (now (s .args .sets)) (c .if1 .taken)))
 
-relaxed-at-requires : tie.Need-relaxed-at-requires
-relaxed-at-requires c κs =
+met-at-requires : tie.Need-met-at-requires
+met-at-requires c κs =
     let s = c .before .before .before .before .before .before .before .before .before .before .before in
     let f = now (s .args .file) in
     let row = now (s .args .row) in
     let ok = sym (c .before .before .before .before .before .check-sets .ensures) ∙ ap checkedAnswer (c .before .before .before .enum-told .given .1) in
-    relaxable f (s .pre) (s .args .action) (c .before .offset-at .ensures) (sizes-there f (s .pre) (same s)) (own-nodes row (ownFrom row (s .args .action)) (c .before .before .own-nodes .ensures)) (relaxed-inside _ _ ok) (c .before .before .before .before .before .before .before .if1 .left)
+    let sizes = sizes-there f (s .pre) (same s) in
+    let inside = relaxed-inside _ _ ok in (
+      relaxable f (s .pre) (s .args .action) (c .before .offset-at .ensures) sizes (own-nodes row (ownFrom row (s .args .action)) (c .before .before .own-nodes .ensures)) inside (c .before .before .before .before .before .before .before .if1 .left),
+      sets-few f (s .pre) sizes inside,
+    )
 
 returns-2 : tie.Need-returns-2
 returns-2 c =
     let s = c .before .before .before .before .before .before .before .before .before in
-    sym (ask-state (now (s .args .file)) (s .pre) checkRelaxed relaxedCost (s .args .action) (now (s .args .sets)) (c .before .before .before .before .before .if1 .left) (same s) (sym (c .before .before .before .check-sets .ensures) ∙ ap checkedAnswer (c .before .why .given .1)))
+    sym (asked-refused _ _ _ (ask-state (now (s .args .file)) (s .pre) checkRelaxed (λ x sets. x) (s .args .action) (now (s .args .sets)) (c .before .before .before .before .before .if1 .left) (same s) (sym (c .before .before .before .check-sets .ensures) ∙ ap checkedAnswer (c .before .why .given .1))))
 
 returns-3 : tie.Need-returns-3
 returns-3 c =
@@ -40,8 +43,9 @@ returns-3 c =
     let f = now (s .args .file) in
     let row = now (s .args .row) in
     let ok = sym (c .before .before .before .before .before .before .check-sets .ensures) ∙ ap checkedAnswer (c .before .before .before .before .enum-told .given .1) in
-    sym (ask-is f (s .pre) checkRelaxed relaxedCost (s .args .action) (now (s .args .sets)) (c .before .before .before .before .before .before .before .before .if1 .left) (same s) ok (λ x h good.
-    c .relaxed-at .ensures ∙ relaxed-in-place f (s .pre) (s .args .action) (c .before .before .offset-at .ensures) (sizes-there f (s .pre) (same s)) (own-nodes row (ownFrom row (s .args .action)) (c .before .before .before .own-nodes .ensures)) (relaxed-inside _ _ ok) h))
+    c .met-at .ensures
+    ∙ sym (asked-is _ _ _ (ask-is f (s .pre) checkRelaxed (λ x sets. x) (s .args .action) (now (s .args .sets)) (c .before .before .before .before .before .before .before .before .if1 .left) (same s) ok (λ x h good.
+    action-in-place f (s .pre) (s .args .action) (c .before .before .offset-at .ensures) (sizes-there f (s .pre) (same s)) (own-nodes row (ownFrom row (s .args .action)) (c .before .before .before .own-nodes .ensures)) (relaxed-inside _ _ ok) h)))
 
 pub relaxed-in-spec : {M : Type 1} → statement M
 relaxed-in-spec =
@@ -61,6 +65,6 @@ relaxed-in-spec =
     (λ c. omega (arith, c .before .own-nodes .ensures))
     (λ c. omega (arith, c .before .own-nodes .ensures))
     (λ c. search needs)
-    relaxed-at-requires
+    met-at-requires
     returns-2
     returns-3)

@@ -1,5 +1,6 @@
 //! One call answered by each side, the answers and the buffers compared and counted.
 
+use crate::answers::{Answers, Situation};
 use crate::defined::Known;
 use second::call::{self, hex, in_words, length, low, number, Call, Operation};
 use second::Reason;
@@ -7,24 +8,6 @@ use std::process;
 
 /// How many places before and after an output buffer are watched.
 const GUARD: usize = 9;
-
-/// The operations, in the order of their numbers.
-const OPERATIONS: [Operation; 11] = [
-    Operation::CheckTask,
-    Operation::CheckProbe,
-    Operation::Cost,
-    Operation::RelaxedCost,
-    Operation::RunTask,
-    Operation::RunProbe,
-    Operation::EstimateTask,
-    Operation::EstimateProbe,
-    Operation::Compile,
-    Operation::Expand,
-    Operation::Contract,
-];
-
-/// The columns of the table of answers: success, estimates that are over or never, refusals by number.
-const ANSWERS: [&str; 15] = ["success", "over", "never", "1", "2", "3", "4", "5", "6", "7", "8", "9", "10", "11", "12"];
 
 /// How many calls there were and how many answers were compared, for one kind of input.
 #[derive(Default)]
@@ -64,7 +47,7 @@ pub struct Comparison {
     seed: u64,
     case: &'static str,
     counts: Vec<Counts>,
-    answers: [[usize; ANSWERS.len()]; OPERATIONS.len()],
+    answers: Answers,
     known: Known,
 }
 
@@ -128,8 +111,7 @@ impl Outcome {
 impl Comparison {
     /// Nothing compared yet.
     pub fn new() -> Comparison {
-        let answers = [[0; ANSWERS.len()]; OPERATIONS.len()];
-        Comparison { seed: 0, case: "", counts: Vec::new(), answers, known: Known::default() }
+        Comparison { seed: 0, case: "", counts: Vec::new(), answers: Answers::default(), known: Known::default() }
     }
 
     /// Begins a kind of input.
@@ -155,7 +137,7 @@ impl Comparison {
         let outcome = before.lent(call::second, call);
         let written = outcome.written(call);
         self.count().calls += 1;
-        self.answers[call.operation as usize][column(call, outcome.answer)] += 1;
+        self.answers.given(call.operation, outcome.answer);
         self.same("what is beyond the result is kept", call, &outcome, &before.holding(&written));
         #[cfg(feature = "library")]
         {
@@ -198,6 +180,11 @@ impl Comparison {
         }
     }
 
+    /// Notes the situation in which a relaxed cost was asked for.
+    pub fn met(&mut self, situation: Situation) {
+        self.answers.met(situation);
+    }
+
     /// Sees that a call is answered, and a result written, as the document says.
     pub fn document(&mut self, case: &'static str, call: &Call, room: usize, wanted: Written) {
         self.case = case;
@@ -238,23 +225,18 @@ impl Comparison {
         println!("comparisons: {}", all[1..].iter().sum::<usize>());
     }
 
-    /// Prints how often each operation gave each kind of answer.
+    /// Prints how often each operation gave each kind of answer, and in which situations relaxed costs were asked for.
     pub fn print_answers(&self) {
-        println!("{:<16}{}", "operation", ANSWERS.map(|name| format!("{name:>8}")).concat());
-        for (operation, row) in OPERATIONS.iter().zip(&self.answers) {
-            let row = row.map(|count| format!("{count:>8}")).concat();
-            println!("{:<16}{row}", format!("{operation:?}"));
-        }
+        self.answers.print();
     }
-}
 
-/// The column of an answer in the table of answers.
-fn column(call: &Call, answer: u64) -> usize {
-    let estimate = [Operation::EstimateTask, Operation::EstimateProbe].contains(&call.operation);
-    match number(answer) {
-        0 if estimate => length(answer),
-        0 => 0,
-        number => 2 + usize::from(number),
+    /// Ends the run with a report if an answer was never given, or a relaxed cost never asked for in some situation.
+    pub fn nothing_missing(&self) {
+        let missing = self.answers.missing();
+        if !missing.is_empty() {
+            eprintln!("not seen: {}", missing.join("; "));
+            process::exit(1);
+        }
     }
 }
 

@@ -42,7 +42,7 @@ fn on_task(call: &Call, task: &TaskModel) -> Option<Answer<Written>> {
             let cost = task.actions[action].cost(call.state).0;
             number((0, cost))
         }),
-        Operation::RelaxedCost => match right_action(call, task) {
+        Operation::RelaxedCost => match right_sets(call, task) {
             Ok(action) => Ok(number((0, definition::relaxed_cost(task, action, call.state)?))),
             Err(refusal) => Err(refusal),
         },
@@ -76,6 +76,16 @@ fn right_action(call: &Call, task: &TaskModel) -> Answer<usize> {
     }
     right_state(call, &task.sizes)?;
     Ok(call.action as usize)
+}
+
+/// Sees that the action and the sets are right, and then that each set has the value that the precondition has for its variable.
+fn right_sets(call: &Call, task: &TaskModel) -> Answer<usize> {
+    let action = right_action(call, task)?;
+    let lacks = |&&(variable, value): &&(u8, u8)| call.state[usize::from(variable)] >> value & 1 == 0;
+    match task.actions[action].precondition.iter().filter(lacks).min() {
+        Some(&(variable, _)) => Reason::Lacking.at(variable.into()),
+        None => Ok(action),
+    }
 }
 
 /// Sees that a state, or a relaxed state, is right: its length, then each value, or each set of values.

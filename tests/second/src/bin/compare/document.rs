@@ -1,9 +1,9 @@
-//! Document 01's cases by name, marked or not, with the answers written out; and the cases in which two refusals could both apply.
+//! Document 01's cases by name, marked or not, with the answers written out; those of document 02's W5; and the cases in which two refusals could both apply.
 
 use crate::comparison::{Comparison, Written};
 use second::call::{refused, Call, Operation};
 use second::model::{ActionModel, NodeModel, TaskModel};
-use second::special::long_path;
+use second::special::{long_path, narrowed_path};
 
 /// Task P, as the document prints it.
 const P: &str = "01 02 00 | 01 0* 01 | 01 | 00 0* | 01 0* 01 | 03 00 | 01 | 00 02 05 00 02 00 00";
@@ -67,13 +67,16 @@ fn packed(answer: u64) -> Written {
     Written { answer, bytes: Vec::new(), entries: Vec::new() }
 }
 
-/// Every case of the document.
+/// Every case of the documents.
 pub fn cases(comparison: &mut Comparison) {
-    comparison.kind("the document's cases");
+    comparison.kind("the documents' cases");
     table(comparison);
     table_of_states(comparison);
     known_plans(comparison);
     known_costs(comparison);
+    costs_with_precondition(comparison);
+    lacking_values(comparison);
+    long_precondition(comparison);
     known_estimates(comparison);
     counts_at_limits(comparison);
     nodes_at_limits(comparison);
@@ -168,19 +171,24 @@ fn node(variable: u8, edges: &[(u8, u16)]) -> NodeModel {
     NodeModel { variable, edges: edges.to_vec() }
 }
 
-/// The known cases about xy²+z+2.
-fn known_costs(comparison: &mut Comparison) {
-    let task = TaskModel {
+/// A task with xy²+z+2 as the cost of an action that has a precondition.
+fn x_y_z(precondition: &[(u8, u8)]) -> TaskModel {
+    TaskModel {
         sizes: vec![2, 3, 2],
         initial: vec![0, 0, 0],
         goal: Vec::new(),
         actions: vec![ActionModel {
+            precondition: precondition.to_vec(),
+            effect: Vec::new(),
             incoming: 2,
             nodes: vec![node(0, &[(3, 0), (2, 0)]), node(1, &[(3, 0), (3, 1), (3, 4)]), node(2, &[(4, 0), (4, 1)])],
-            ..ActionModel::default()
         }],
-    };
-    let file = task.bytes();
+    }
+}
+
+/// The known cases about xy²+z+2.
+fn known_costs(comparison: &mut Comparison) {
+    let file = x_y_z(&[]).bytes();
     let cost = Call::on(Operation::Cost, &file);
     comparison.document("(1,2,0) costs 6", &cost.state(&[1, 2, 0]), 0, sum(6));
     comparison.document("(0,2,1) costs 3", &cost.state(&[0, 2, 1]), 0, sum(3));
@@ -191,10 +199,76 @@ fn known_costs(comparison: &mut Comparison) {
     comparison.document("relaxed {1},{1,2},{0,1}: 3", &relaxed.state(&sets), 0, sum(3));
 }
 
+/// The file of a task where x=1 and z=1 are needed for an action that costs xy²+z+2, and for one without nodes that costs 9.
+fn needs_x_z() -> Vec<u8> {
+    let mut task = x_y_z(&[(0, 1), (2, 1)]);
+    let constant = ActionModel { incoming: 9, nodes: Vec::new(), ..task.actions[0].clone() };
+    task.actions.push(constant);
+    task.bytes()
+}
+
+/// Relaxed costs over states that meet a precondition, where the sets have its values; a cost in a state is as before.
+fn costs_with_precondition(comparison: &mut Comparison) {
+    let file = needs_x_z();
+    let cases = [
+        ("needs x=1, z=1; {0,1},{1,2},{0,1}: 4", [0b11, 0b110, 0b11], 4),
+        ("needs x=1, z=1; {1},{0,1,2},{1}: 3", [0b10, 0b111, 0b10], 3),
+        ("needs x=1, z=1; {0,1},{2},{0,1}: 7", [0b11, 0b100, 0b11], 7),
+    ];
+    let relaxed = Call::on(Operation::RelaxedCost, &file);
+    for (name, sets, cost) in cases {
+        comparison.document(name, &relaxed.state(&sets), 0, sum(cost));
+        comparison.document("no nodes: 9", &relaxed.action(1).state(&sets), 0, sum(9));
+    }
+    let cost = Call::on(Operation::Cost, &file).state(&[0, 2, 0]);
+    comparison.document("needs x=1, z=1; (0,2,0) costs 2", &cost, 0, sum(2));
+}
+
+/// Sets that lack values of the precondition x=1, z=1 (17), and what comes before that.
+fn lacking_values(comparison: &mut Comparison) {
+    let file = needs_x_z();
+    let cases = [
+        ("17: {0},{1,2},{0}", [0b01, 0b110, 0b01], 17, 0),
+        ("17: {0},{1,2},{0,1}", [0b01, 0b110, 0b11], 17, 0),
+        ("17: {0,1},{1,2},{0}", [0b11, 0b110, 0b01], 17, 2),
+        ("4 before 17: {0},{1,2},{}", [0b01, 0b110, 0b00], 4, 2),
+        ("4 before 17: {0},{1,2},{0} and a stray bit", [0b01, 0b110, 0b101], 4, 2),
+        ("4 before 17: {0},{},{0}", [0b01, 0b000, 0b01], 4, 1),
+    ];
+    let relaxed = Call::on(Operation::RelaxedCost, &file);
+    for (name, sets, number, place) in cases {
+        for action in [0, 1] {
+            comparison.document(name, &relaxed.action(action).state(&sets), 0, refusal(number, place));
+        }
+    }
+    let sets = [0b01, 0b110, 0b01];
+    comparison.document("11 before 17", &relaxed.action(2).state(&sets), 0, refusal(11, 0));
+    comparison.document("12 before 17", &relaxed.state(&sets[..2]), 0, refusal(12, 0));
+    let and_a_byte = [&file[..], &[0]].concat();
+    let call = Call::on(Operation::RelaxedCost, &and_a_byte).state(&sets);
+    comparison.document("a refused file; values lacking", &call, 0, refusal(2, file.len()));
+}
+
+/// Relaxed costs where all 24 variables are in the precondition, with their greatest values.
+fn long_precondition(comparison: &mut Comparison) {
+    let file = narrowed_path(24).bytes();
+    let relaxed = Call::on(Operation::RelaxedCost, &file);
+    let mut sets = [0b1111_1111; 24];
+    comparison.document("24 facts, each 7 more", &relaxed.state(&sets), 0, sum(65_535 + 24 * 7));
+    sets[23] = 0b0111_1111;
+    comparison.document("the last lacking", &relaxed.state(&sets), 0, refusal(17, 23));
+    sets[5] = 0b0000_0001;
+    comparison.document("the last and one before it lacking", &relaxed.state(&sets), 0, refusal(17, 5));
+    sets[12] = 0;
+    comparison.document("an empty set above", &relaxed.state(&sets), 0, refusal(4, 12));
+}
+
 /// The known cases about estimates, and those at 4,294,967,295.
 fn known_estimates(comparison: &mut Comparison) {
     let sets_a =
         ActionModel { effect: vec![(0, 1)], nodes: vec![node(1, &[(2, 2), (2, 0)])], ..ActionModel::default() };
+    let needs_b_0 =
+        ActionModel { precondition: vec![(1, 0)], nodes: vec![node(1, &[(2, 5), (2, 0)])], ..sets_a.clone() };
     let sets_b = ActionModel { effect: vec![(1, 1)], incoming: 1, ..ActionModel::default() };
     let task = |goal: &[(u8, u8)], actions: &[&ActionModel]| TaskModel {
         sizes: vec![2, 2],
@@ -209,6 +283,7 @@ fn known_estimates(comparison: &mut Comparison) {
         ("estimate 1", task(&[(0, 1)], &[&sets_a, &sets_b]), sum(1)),
         ("without the second, 2", task(&[(0, 1)], &[&sets_a]), sum(2)),
         ("B=1 without it, never", task(&[(1, 1)], &[&sets_a]), never()),
+        ("the precondition narrows no estimate", task(&[(0, 1)], &[&needs_b_0, &sets_b]), sum(1)),
         ("0 for an empty goal", task(&[], &[&sets_a]), sum(0)),
         ("the greatest exact number", doubling(17, 1), sum(u32::MAX)),
         ("one more is over", doubling(17, 2), over()),

@@ -1,6 +1,7 @@
 //! What is asked of one task and of one probe file: every operation, with right and wrong lists, states and buffers.
 
 use crate::comparison::Comparison;
+use crate::relaxed::Relaxed;
 use second::call::{low, number, refused, Call, Operation};
 use second::generate::{damaged_file, damaged_list, Random};
 use second::model::{ProbeModel, TaskModel};
@@ -80,21 +81,14 @@ fn probe_lists(comparison: &mut Comparison, random: &mut Random, file: &[u8], pr
 /// Asks for costs and relaxed costs, in right and wrong states, of actions that there are and are not.
 fn costs(comparison: &mut Comparison, random: &mut Random, task: &TaskModel, file: &[u8]) {
     for _ in 0..6 {
-        let action = random.below(task.actions.len()) as u64;
+        let action = random.below(task.actions.len());
+        Relaxed::of(task, file, action).ask(comparison, random);
         let state = random.state(&task.sizes);
-        let cost_call = Call::on(Operation::Cost, file).action(action).state(&state);
-        let cost = comparison.answer(&cost_call);
-        let single: Vec<u8> = state.iter().map(|value| 1 << value).collect();
-        let relaxed = Call::on(Operation::RelaxedCost, file).action(action);
-        let least = comparison.answer(&relaxed.state(&single));
-        comparison.law("relaxed to one state, the cost", &relaxed.state(&single), cost, least);
-        let mut sets = random.sets(&task.sizes);
-        for (set, only) in sets.iter_mut().zip(&single) {
-            *set |= only;
-        }
-        let wider = comparison.answer(&relaxed.state(&sets));
-        comparison.law("relaxed, at most the cost", &relaxed.state(&sets), wider, wider.min(cost));
-        for call in [cost_call, relaxed.state(&sets)] {
+        let sets = random.sets_with(&state, &task.sizes);
+        let cost = Call::on(Operation::Cost, file).state(&state);
+        let relaxed = Call::on(Operation::RelaxedCost, file).state(&sets);
+        for call in [cost, relaxed].map(|call| call.action(action as u64)) {
+            comparison.answer(&call);
             wrong_states(comparison, random, call);
             let missing = random.pick(&[task.actions.len() as u64, 255, 1 << 32, u64::MAX]);
             comparison.answer(&call.action(missing));

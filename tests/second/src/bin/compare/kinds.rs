@@ -2,6 +2,7 @@
 
 use crate::comparison::Comparison;
 use crate::exercise;
+use crate::relaxed::Relaxed;
 use second::call::{Call, Operation};
 use second::generate::{self, goal_in, walk, Random, Shape};
 use second::model::{ActionModel, Facts, NodeModel, StepModel, TaskModel};
@@ -63,6 +64,58 @@ pub fn limits(comparison: &mut Comparison) {
         comparison.seed(seed);
         let random = &mut Random::new(seed);
         exercise::damage(comparison, random, Operation::CheckTask, &longest.bytes());
+    }
+}
+
+/// Relaxed costs: with every relaxed state of tiny tasks, and of long diagrams with none, some or all of 24 variables in the precondition.
+pub fn relaxed_costs(comparison: &mut Comparison) {
+    comparison.kind("every relaxed state of tiny tasks");
+    for seed in 0..100 {
+        comparison.seed(seed);
+        let task = generate::task(&mut Random::new(seed), generate::TINY);
+        let file = task.bytes();
+        for action in 0..task.actions.len() as u64 {
+            let call = Call::on(Operation::RelaxedCost, &file).action(action);
+            every_relaxed_state(&task.sizes, |sets| {
+                comparison.answer(&call.state(sets));
+            });
+        }
+    }
+    comparison.kind("relaxed costs of long diagrams");
+    for seed in 0..200 {
+        comparison.seed(seed);
+        let random = &mut Random::new(seed);
+        let mut task = generate::task(random, generate::DIAGRAMS);
+        let percent = random.pick(&[0, 5, 50, 100]);
+        for action in &mut task.actions {
+            action.precondition = random.facts(&task.sizes, percent);
+        }
+        relaxed_costs_of(comparison, random, &task);
+    }
+    for facts in 0..=Task::VARIABLES {
+        relaxed_costs_of(comparison, &mut Random::new(facts.into()), &special::narrowed_path(facts));
+    }
+}
+
+/// Calls `visit` with each choice of a byte for each variable, from the empty set to one with a stray bit.
+fn every_relaxed_state(sizes: &[u8], mut visit: impl FnMut(&[u8])) {
+    let mut sets = vec![0; sizes.len()];
+    while let Some(next) = (0..sizes.len()).find(|&variable| sets[variable] < 1 << sizes[variable]) {
+        visit(&sets);
+        sets[next] += 1;
+        sets[..next].fill(0);
+    }
+    visit(&sets);
+}
+
+/// Asks for relaxed costs of each action of a task.
+fn relaxed_costs_of(comparison: &mut Comparison, random: &mut Random, task: &TaskModel) {
+    let file = task.bytes();
+    for action in 0..task.actions.len() {
+        let relaxed = Relaxed::of(task, &file, action);
+        for _ in 0..6 {
+            relaxed.ask(comparison, random);
+        }
     }
 }
 
@@ -192,6 +245,8 @@ pub fn damaged_files(comparison: &mut Comparison) {
     every_damage(&three_nodes().bytes(), |damaged| {
         exercise::check(comparison, Operation::CheckTask, damaged);
         comparison.with_room(&Call::on(Operation::Compile, damaged), 1_000);
+        // The set of variable 0 lacks the precondition's value.
+        comparison.answer(&Call::on(Operation::RelaxedCost, damaged).state(&[0b10, 0b111]));
     });
 }
 

@@ -1,11 +1,13 @@
 //! Compares the second implementation with the library (feature `library`), with the document's definitions and laws, and with its written-out cases.
-//! The first difference is reported with its seed and input and ends the run with exit code 1.
+//! The first difference is reported with its seed and input and ends the run with exit code 1, and so does an answer that was never given.
 
+mod answers;
 mod comparison;
 mod defined;
 mod document;
 mod exercise;
 mod kinds;
+mod relaxed;
 
 use comparison::Comparison;
 use std::time::Instant;
@@ -17,6 +19,7 @@ fn main() {
     document::cases(&mut comparison);
     kinds::tasks(&mut comparison);
     kinds::limits(&mut comparison);
+    kinds::relaxed_costs(&mut comparison);
     kinds::estimates(&mut comparison);
     kinds::probes(&mut comparison);
     kinds::long_lists(&mut comparison);
@@ -25,4 +28,5 @@ fn main() {
     println!();
     comparison.print_counts();
     println!("seconds: {:.1}", start.elapsed().as_secs_f64());
+    comparison.nothing_missing();
 }

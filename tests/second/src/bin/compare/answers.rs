@@ -1,0 +1,114 @@
+//! How often each operation gave each answer, and how often relaxed costs were asked for in each situation; none may be missing.
+
+use second::call::{length, number, Operation};
+
+/// The operations, in the order of their numbers, and the answers that each has.
+const OPERATIONS: [(Operation, &str); 11] = [
+    (Operation::CheckTask, "success 1 2 3 4 5 6"),
+    (Operation::CheckProbe, "success 1 2 3 4 5"),
+    (Operation::Cost, "success 1 2 3 4 5 6 11 12"),
+    (Operation::RelaxedCost, "success 1 2 3 4 5 6 11 12 17"),
+    (Operation::RunTask, "success 1 2 3 4 5 6 8 9 10 11"),
+    (Operation::RunProbe, "success 1 2 3 4 5 8 9 10 11"),
+    (Operation::EstimateTask, "success over never 1 2 3 4 5 6 12"),
+    (Operation::EstimateProbe, "success over never 1 2 3 4 5 12"),
+    (Operation::Compile, "success 1 2 3 4 5 6 7"),
+    (Operation::Expand, "success 1 2 3 4 5 6 7 8 9 10 11"),
+    (Operation::Contract, "success 1 2 3 4 5 6 7 8 9 10 11"),
+];
+
+/// The columns of the table of answers: success, estimates that are over or never; then refusals by number.
+const ACCEPTED: [&str; 3] = ["success", "over", "never"];
+const REFUSED: [u8; 13] = [1, 2, 3, 4, 5, 6, 7, 8, 9, 10, 11, 12, 17];
+const COLUMNS: usize = ACCEPTED.len() + REFUSED.len();
+
+/// The situations in which relaxed costs are asked for: what precondition and nodes there are, and whether the sets have the precondition's values or lack some.
+#[derive(Clone, Copy)]
+pub enum Situation {
+    NoPrecondition,
+    NoNodes,
+    NoneTested,
+    NotRaised,
+    Raised,
+    AllVariables,
+    OneLacking,
+    SeveralLacking,
+    LackingNoNodes,
+    LackingAndWrong,
+}
+
+/// The situations in words, in their order.
+const SITUATIONS: [&str; 10] = [
+    "an empty precondition",
+    "a precondition, and no nodes",
+    "no precondition variable tested",
+    "one tested, and the cost not raised",
+    "one tested, and the cost raised",
+    "all 24 variables in the precondition",
+    "one value lacking",
+    "several values lacking",
+    "a value lacking, and no nodes",
+    "a value lacking, and a wrong set above it",
+];
+
+/// The counts.
+#[derive(Default)]
+pub struct Answers {
+    given: [[usize; COLUMNS]; OPERATIONS.len()],
+    met: [usize; SITUATIONS.len()],
+}
+
+impl Answers {
+    /// Counts an answer of an operation.
+    pub fn given(&mut self, operation: Operation, answer: u64) {
+        self.given[operation as usize][column(operation, answer)] += 1;
+    }
+
+    /// Counts a situation.
+    pub fn met(&mut self, situation: Situation) {
+        self.met[situation as usize] += 1;
+    }
+
+    /// Prints how often each operation gave each kind of answer, and how often each situation was met.
+    pub fn print(&self) {
+        let names: String = names().map(|name| format!("{name:>8}")).collect();
+        println!("{:<16}{names}", "operation");
+        for ((operation, _), row) in OPERATIONS.iter().zip(&self.given) {
+            let row = row.map(|count| format!("{count:>8}")).concat();
+            println!("{:<16}{row}", format!("{operation:?}"));
+        }
+        println!("\n{:<48}    times", "relaxed costs");
+        for (situation, count) in SITUATIONS.iter().zip(self.met) {
+            println!("{situation:<48}{count:>9}");
+        }
+    }
+
+    /// The answers that an operation has and did not give, and the situations that were not met.
+    pub fn missing(&self) -> Vec<String> {
+        let mut missing = Vec::new();
+        for ((operation, has), row) in OPERATIONS.iter().zip(&self.given) {
+            let absent = names().zip(row).filter(|(name, &count)| count == 0 && has.split(' ').any(|has| has == name));
+            missing.extend(absent.map(|(name, _)| format!("{operation:?}: {name}")));
+        }
+        let unmet = SITUATIONS.iter().zip(self.met).filter(|&(_, count)| count == 0);
+        missing.extend(unmet.map(|(situation, _)| format!("relaxed costs: {situation}")));
+        missing
+    }
+}
+
+/// The names of the columns.
+fn names() -> impl Iterator<Item = String> {
+    ACCEPTED.iter().map(ToString::to_string).chain(REFUSED.iter().map(ToString::to_string))
+}
+
+/// The column of an answer.
+fn column(operation: Operation, answer: u64) -> usize {
+    match (number(answer), operation) {
+        (0, Operation::EstimateTask | Operation::EstimateProbe) => length(answer),
+        (0, _) => 0,
+        (number, _) => {
+            let place = REFUSED.iter().position(|&refused| refused == number);
+            ACCEPTED.len() + place.expect("a refusal of the documents")
+        }
+    }
+}
