@@ -48,24 +48,6 @@ action-found actions a {x} h = go (getElem? actions a) refl h
     go none e h = absurd (not-refused h)
     go (some y) e h = let is : y ≡ x = cc in rw is at (found actions a e)
 
--- what is answered about an action of an accepted file
-pub record Asked {A : Type 0} (checked : List ℕ → List ℕ → Read (Unit {0})) (answer : Action → List ℕ → A) (f : List ℕ) (a : ℕ) (s : List ℕ) (y : A) : Type 0 where
-  pub task : Task
-  pub reads : readTask f ≡ accepted task
-  pub action : Action
-  pub found : At (task .actions) a action
-  pub good : checked (task .sizes) s ≡ accepted tt
-  pub is : answer action s ≡ y
-
-pub ask-accepted : {A : Type 0} (checked : List ℕ → List ℕ → Read (Unit {0})) (answer : Action → List ℕ → A) (f : List ℕ) (a : ℕ) (s : List ℕ) {y : A}
-    → askTask checked answer f a s ≡ accepted y → Asked checked answer f a s y
-unfolding askTask
-ask-accepted checked answer f a s h =
-    let t = through (readTask f) h in
-    let x = through (actionOf (t .got .actions) a) (t .then) in
-    let u = through (checked (t .got .sizes) s) (x .then) in
-    record { task = t .got; reads = t .first; action = x .got; found = action-found (t .got .actions) a (x .first); good = u .first; is = let e = u .then in cc }
-
 module _ (f : List ℕ) {n count : ℕ} {row : List ℕ} (ready : Ready f n count row) where
   -- the task that is there
   pub record There : Type 0 where
@@ -160,3 +142,21 @@ module _ (f : List ℕ) {n count : ℕ} {row : List ℕ} (ready : Ready f n coun
   run-is list =
       rw (there .reads)
       (ap (λ (sum : Read ℕ). _>>=_ (atMost maxList list) (λ u. sum)) (sym (sum-in-place f (there .reads) (ready .located) (sym (there .actions)) (1 + 2 * n) list (take n (drop (1 + n) f)) (starts .init) (starts .goal))))
+
+-- what is answered about an action of an accepted file
+pub record Asked {A : Type 0} (checked : List ℕ → List ℕ → Read (Unit {0})) (answer : Action → List ℕ → A) (f : List ℕ) (a : ℕ) (s : List ℕ) (y : A) : Type 0 where
+  pub task : Task
+  pub reads : readTask f ≡ accepted task
+  pub action : Action
+  pub found : At (task .actions) a action
+  pub good : checked (task .sizes) s ≡ accepted tt
+  pub is : answer action s ≡ y
+
+pub ask-accepted : {A : Type 0} (checked : List ℕ → List ℕ → Read (Unit {0})) (answer : Action → List ℕ → A) (f : List ℕ) (a : ℕ) (s : List ℕ) {y : A}
+    → askTask checked answer f a s ≡ accepted y → Asked checked answer f a s y
+unfolding askTask
+ask-accepted checked answer f a s h =
+    let t = through (readTask f) h in
+    let x = through (actionOf (t .got .actions) a) (t .then) in
+    let u = through (checked (t .got .sizes) s) (x .then) in
+    record { task = t .got; reads = t .first; action = x .got; found = action-found (t .got .actions) a (x .first); good = u .first; is = let e = u .then in cc }
