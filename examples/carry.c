@@ -1,4 +1,4 @@
-/* Compiles a task file, carries a plan across to the probe file and back, compares the sums, and traces the steps.
+/* Compiles a task file, runs a plan to know how many steps it has on the probe, carries it across and back, compares the sums, and traces the steps.
  *
  *   rt staticlib jafrelin
  *   cc -Iinclude examples/carry.c target/staticlib/libjafrelin.a -o carry
@@ -40,13 +40,14 @@ int main(int argc, char **argv)
         plan[actions++] = (uint16_t)strtoul(argv[i], NULL, 10);
 
     size_t probe_len = JAFRELIN_LENGTH(accepted(jafrelin_compile(task, task_len, probe, sizeof probe), JAFRELIN_OF_FILE));
-    uint64_t there = accepted(jafrelin_expand(task, task_len, plan, actions, steps, JAFRELIN_PROBE_MAX_LIST), JAFRELIN_OF_LIST);
-    size_t count = JAFRELIN_LENGTH(there);
+    uint64_t run = accepted(jafrelin_run_task(task, task_len, plan, actions), JAFRELIN_OF_LIST);
+    size_t count = 2 * actions + JAFRELIN_NODES(run);
+    uint64_t there = accepted(jafrelin_expand(task, task_len, plan, actions, steps, count), JAFRELIN_OF_LIST);
     uint64_t followed = accepted(jafrelin_run_probe(probe, probe_len, steps, count), JAFRELIN_OF_LIST);
     uint64_t home = accepted(jafrelin_contract(task, task_len, steps, count, back, JAFRELIN_TASK_MAX_LIST), JAFRELIN_OF_CONTRACTED);
     uint64_t trace = accepted(jafrelin_trace(task, task_len, steps, count, 1, text, sizeof text), JAFRELIN_OF_LIST);
 
     printf("%zu bytes, %zu steps, sum %u\n", probe_len, count, (unsigned)JAFRELIN_SUM(there));
     fwrite(text, 1, JAFRELIN_LENGTH(trace), stdout);
-    return JAFRELIN_SUM(there) != JAFRELIN_SUM(followed) || JAFRELIN_SUM(there) != JAFRELIN_SUM(home) || JAFRELIN_LENGTH(home) != actions;
+    return JAFRELIN_SUM(there) != JAFRELIN_SUM(run) || JAFRELIN_LENGTH(there) != count || JAFRELIN_SUM(there) != JAFRELIN_SUM(followed) || JAFRELIN_SUM(there) != JAFRELIN_SUM(home) || JAFRELIN_LENGTH(home) != actions;
 }

@@ -7,7 +7,7 @@
  *
  * The result of every function:
  *   bits 63 to 56   the refusal's number, 1 to 12 or 17; 0 for success
- *   bits 55 to 32   for success: the length written; of an estimate 0 exact, 1 over, 2 never; else 0
+ *   bits 55 to 32   for success: the length written; of a cost or a run on a task the nodes passed; of an estimate 0 exact, 1 over, 2 never; else 0
  *   bits 31 to 0    for success: the sum, the cost or the exact estimate; for a refusal: its place
  */
 #ifndef JAFRELIN_H
@@ -25,6 +25,7 @@ extern "C" {
 /* The parts of a result. */
 #define JAFRELIN_REFUSAL(result) ((unsigned)((result) >> 56))
 #define JAFRELIN_LENGTH(result) ((uint32_t)((result) >> 32 & 0xffffff))
+#define JAFRELIN_NODES(result) JAFRELIN_LENGTH(result)
 #define JAFRELIN_SUM(result) ((uint32_t)(result))
 #define JAFRELIN_PLACE(result) ((uint32_t)(result))
 
@@ -93,11 +94,12 @@ enum jafrelin_refusal {
 uint64_t jafrelin_check_task(const uint8_t *file, size_t file_len);
 uint64_t jafrelin_check_probe(const uint8_t *file, size_t file_len);
 
-/* The cost of an action in a state, and its least cost over all states in a relaxed state that meet its precondition. */
+/* The cost of an action in a state, with the nodes that are passed on its path; and its least cost over all states in a relaxed state that meet its precondition. */
 uint64_t jafrelin_cost(const uint8_t *file, size_t file_len, uint64_t action, const uint8_t *state, size_t state_len);
 uint64_t jafrelin_relaxed_cost(const uint8_t *file, size_t file_len, uint64_t action, const uint8_t *sets, size_t sets_len);
 
-/* The sum of a list of actions, or of steps. */
+/* The sum of a list of actions, with the nodes that they pass; and that of a list of steps. The probe list of a plan has 2 * list_len + JAFRELIN_NODES(result) entries, with the result of
+ * its run: at most 26 for each action. */
 uint64_t jafrelin_run_task(const uint8_t *file, size_t file_len, const uint16_t *list, size_t list_len);
 uint64_t jafrelin_run_probe(const uint8_t *file, size_t file_len, const uint16_t *list, size_t list_len);
 

@@ -41,7 +41,7 @@ pub record Marked : Type 0 where
   pub P-compiles : compileFile P-bytes 106 ≡ accepted 106
   pub P-written : (out : List ℕ) → length out ≡ 106 → compiledBuffer P-bytes out ≡ P-file
   -- "P, list 0: sum 8; expands to 0,1,3."
-  pub P-list-0 : runTask P-bytes (0 ∷ []) ≡ accepted 8
+  pub P-list-0 : runTask P-bytes (0 ∷ []) ≡ accepted (record { cost = 8; passed = 1 })
   pub P-expands : expanded P-bytes (0 ∷ []) ≡ accepted (0 ∷ 1 ∷ 3 ∷ [], 8)
   -- "That probe list: sum 8."
   pub probe-list-0-1-3 : runProbe P-file (0 ∷ 1 ∷ 3 ∷ []) ≡ accepted 8
@@ -52,9 +52,9 @@ pub record Marked : Type 0 where
   -- "Empty list on P: 10 at 0."
   pub P-empty-list : runTask P-bytes [] ≡ refused 10 0
   -- "For xy²+z+2 (x, z of 2 values, y of 3): (1,2,0) costs 6"
-  pub cost-6 : costTask xy²+z+2-bytes 0 (1 ∷ 2 ∷ 0 ∷ []) ≡ accepted 6
+  pub cost-6 : costTask xy²+z+2-bytes 0 (1 ∷ 2 ∷ 0 ∷ []) ≡ accepted (record { cost = 6; passed = 3 })
   -- "(0,2,1) costs 3"
-  pub cost-3 : costTask xy²+z+2-bytes 0 (0 ∷ 2 ∷ 1 ∷ []) ≡ accepted 3
+  pub cost-3 : costTask xy²+z+2-bytes 0 (0 ∷ 2 ∷ 1 ∷ []) ≡ accepted (record { cost = 3; passed = 2 })
   -- "relaxed {0,1},{1,2},{0}: 2"
   pub relaxed-cost-2 : relaxedTask xy²+z+2-bytes 0 (3 ∷ 6 ∷ 1 ∷ []) ≡ accepted 2
   -- "{1},{1,2},{0,1}: 3"

@@ -25,6 +25,7 @@ use Rattle.compilation.specs.CompileFile.{probeFileOf, compileFile}
 use Rattle.plans.specs.Carry.{expand, contract}
 use Rattle.carry.specs.CarryFile.{expanded, startsAtMost, contracted, listOf, answerIn}
 use Rattle.carry.specs.SameSumLaws.{answer-length}
+use Rattle.carry.specs.LongList.{refused-alike}
 use Rattle.cases.specs.SiteLaws.{first, after, stops, stopped, passed, failed, unmade}
 use Rattle.cases.specs.StartRows.{Over, starts-row}
 use Rattle.cases.specs.ListRows.{System, ListFault, listSum, list-row}
@@ -131,10 +132,6 @@ unfolding stepMove
 step-blocked {st = st} h s = rw (look h, stepMove) (attempt-row (st .pre) (st .eff) (st .cost) s)
 
 module _ (f list : List ℕ) (n p : ℕ) where
-  pub run-task : (runTask f list ≡ refused n p) ↔ Given (readTask f) (λ t. ListFault 256 (taskSystem t) list n p) n p
-  unfolding runTask taskSum
-  run-task = given (readTask f) _ _ n p (λ t. list-row (taskSystem t) 256 list n p)
-
   pub run-probe : (runProbe f list ≡ refused n p) ↔ Given (readProbe f) (λ y. ListFault 6656 (probeSystem y) list n p) n p
   unfolding runProbe probeSum
   run-probe = given (readProbe f) _ _ n p (λ y. list-row (probeSystem y) 6656 list n p)
@@ -146,6 +143,10 @@ module _ (f list : List ℕ) (n p : ℕ) where
       let e = bind-assoc (atMost 256 list) (λ u. taskSum t list) (λ sum. accepted (expand t list, sum)) in
       let r = list-row (taskSystem t) 256 list n p in
       (λ h. r .0 (unmade sum _ (e ∙ h)), λ d. sym e ∙ stopped _ (r .1 d)))
+
+  -- a run is refused where expanding is
+  pub run-task : (runTask f list ≡ refused n p) ↔ Given (readTask f) (λ t. ListFault 256 (taskSystem t) list n p) n p
+  run-task = let alike = refused-alike f list n p in (λ h. expand-list .0 (alike .0 h), λ d. alike .1 (expand-list .1 d))
 
   -- more than 256 actions would come out of a list that is within its own limit, and a plan
   abbrev pub Overfull : Task → Type 0

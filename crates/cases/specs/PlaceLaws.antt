@@ -47,6 +47,12 @@ pub made-within : {X Y : Type 0} {good : X → Type 0} {fine : Y → Type 0} {mo
 made-within g (value {x = x} h) on = value (on x refl h)
 made-within g (place l) on = place l
 
+-- what it was made of
+pub of-made : {X Y : Type 0} {good : Y → Type 0} {fine : X → Type 0} {most : ℕ} (g : X → Y) (m : Read X) → Within good most (withValue g m) → ((x : X) → m ≡ accepted x → good (g x) → fine x)
+    → Within fine most m
+of-made g (accepted x) (value h) on = value (on x refl h)
+of-made g (refused n p) (place l) on = place l
+
 -- by the places of its refusals
 pub placed-by : {X : Type 0} {most : ℕ} (m : Read X) → ((n p : ℕ) → m ≡ refused n p → p ≤ most) → Placed most m
 placed-by (accepted x) h = value tt

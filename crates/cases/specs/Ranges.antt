@@ -22,10 +22,10 @@ use Rattle.facts.specs.RunLaws.{attempt-next, attempt-blocked, not-blocked}
 use Rattle.estimate.specs.Number.{Number, WithinCap}
 use Rattle.estimate.specs.Additive.{estimateFile}
 use Rattle.estimate.specs.AdditiveLaws.{additive-within}
-use Rattle.taskfile.specs.Task.{Action, Task, maxVariables, maxBytes, maxWritten, maxList, maxCost, cost, perform, actionMove, taskSum}
-use Rattle.taskfile.specs.TaskFile.{readTask, checkTask, actionOf, askTask, costTask, runTask}
+use Rattle.taskfile.specs.Task.{Action, Task, Walk, maxVariables, maxBytes, maxWritten, maxList, maxCost, walk, cost, perform, actionMove, taskSum}
+use Rattle.taskfile.specs.TaskFile.{readTask, checkTask, actionOf, askTask, costTask, runTask, sumTask}
 use Rattle.taskfile.specs.TaskReadLaws.{task-wf, task-limits}
-use Rattle.taskfile.specs.TaskLaws.{attempt-inside, accepted-cost}
+use Rattle.taskfile.specs.TaskLaws.{attempt-inside, accepted-passed, accepted-cost}
 use Rattle.probefile.specs.Probe.{Step, Probe, stepMove, probeSum, WfStep, WfProbe}
 use Rattle.probefile.specs.Probe.{maxList as maxProbeList, perform as performStep}
 use Rattle.probefile.specs.ProbeFile.{readProbe, checkProbe, writeProbe, runProbe}
@@ -48,9 +48,10 @@ use Rattle.plans.specs.Carry.{expand, contract}
 use Rattle.plans.specs.LengthLaws.{expand-fits}
 use Rattle.carry.specs.CarryFile.{expanded, startsAtMost, contracted, answerIn}
 use Rattle.carry.specs.SameSumLaws.{fits-inv}
+use Rattle.carry.specs.LongList.{sum-of-run, long-list}
 use Rattle.carry.specs.StartLaws.{starts-kept}
 use Rattle.cases.specs.StartRows.{starts-row}
-use Rattle.cases.specs.PlaceLaws.{Within, value, place, Placed, then-within, made-within, placed-by, more-within, check-placed, task-places, probe-places}
+use Rattle.cases.specs.PlaceLaws.{Within, value, place, Placed, then-within, made-within, of-made, placed-by, more-within, check-placed, task-places, probe-places}
 
 -- ---- files
 
@@ -78,6 +79,10 @@ with-placed good sizes s most l = then-within _ (check-placed (eqb (length s) (l
 
 -- ---- costs
 
+-- at most so many nodes are passed, at a cost of at most so much
+abbrev pub Walked : ℕ → ℕ → Walk → Type 0
+Walked long dear w = (w .passed ≤ long) × (w .cost ≤ dear)
+
 action-placed : (actions : List Action) (a most : ℕ) → Within (At actions a) most (actionOf actions a)
 unfolding actionOf
 action-placed actions a most = go (getElem? actions a) refl
@@ -96,10 +101,12 @@ module _ (f : List ℕ) (bytes : Bytes f) (a : ℕ) (s : List ℕ) where
       then-within _ (action-placed (t .actions) a (suc maxBytes)) (λ x e k.
       then-within _ (placed (t .sizes) (task-limits f h .variables)) (λ u i g. value (most t x h k i))))
 
-  pub cost-range : Within (λ c. c ≤ maxCost) (suc maxBytes) (costTask f a s)
+  pub cost-range : Within (Walked maxVariables maxCost) (suc maxBytes) (costTask f a s)
   unfolding checkState
   cost-range =
-      ask-range (λ c. c ≤ maxCost) checkState cost (λ sizes l. with-placed (λ d x. ltb x d) sizes s (suc maxBytes) (omega arith)) (λ t x h k i. accepted-cost f h k s (state-inside (t .sizes) s i) bytes)
+      ask-range (Walked maxVariables maxCost) checkState walk (λ sizes l. with-placed (λ d x. ltb x d) sizes s (suc maxBytes) (omega arith)) (λ t x h k i.
+      let inside = state-inside (t .sizes) s i in
+      (accepted-passed f h k s inside, accepted-cost f h k s inside bytes))
 
 -- a state in the sets is inside the domains
 sets-inside : {sizes sets s : List ℕ} → RelaxedInside sizes sets → InSets sets s → Inside sizes s
@@ -182,6 +189,10 @@ mostOfTask = 419424000
 abbrev pub mostOfProbe : ℕ
 mostOfProbe = 436200960
 
+-- the most nodes that a list of actions can pass
+abbrev pub mostPassed : ℕ
+mostPassed = 6144
+
 module _ (f : List ℕ) (bytes : Bytes f) {t : Task} (h : readTask f ≡ accepted t) where
   action-kept : (a : ℕ) (s e : List ℕ) (c : ℕ) → Inside (t .sizes) s → actionMove (t .actions) a s ≡ next e c → Inside (t .sizes) e × (c ≤ maxCost)
   unfolding actionMove
@@ -210,9 +221,13 @@ module _ {y : Probe} (wf : WfProbe y) where
   unfolding probeSum
   probe-sum-range list = list-range (length (y .steps)) (stepMove (y .steps)) (y .goal) (λ s. Unit {0}) 65535 step-kept maxProbeList mostOfProbe list (y .init) tt (omega arith)
 
-pub run-task-range : (f : List ℕ) → Bytes f → (list : List ℕ) → Within (λ sum. sum ≤ mostOfTask) (suc maxBytes) (runTask f list)
-unfolding runTask
-run-task-range f bytes list = then-within _ (task-places f) (λ t h g. more-within (task-sum-range f bytes h list) (omega arith))
+sum-task-range : (f : List ℕ) → Bytes f → (list : List ℕ) → Within (λ sum. sum ≤ mostOfTask) (suc maxBytes) (sumTask f list)
+unfolding sumTask
+sum-task-range f bytes list = then-within _ (task-places f) (λ t h g. more-within (task-sum-range f bytes h list) (omega arith))
+
+pub run-task-range : (f : List ℕ) → Bytes f → (list : List ℕ) → Within (Walked mostPassed mostOfTask) (suc maxBytes) (runTask f list)
+run-task-range f bytes list =
+    of-made (λ (w : Walk). w .cost) (runTask f list) (rw (sum-of-run f list) (sum-task-range f bytes list)) (λ w h dear. let l = long-list f list w h in (omega (arith, l .few, l .exactly, l .most), dear))
 
 pub run-probe-range : (f : List ℕ) → Bytes f → (list : List ℕ) → Within (λ sum. sum ≤ mostOfProbe) (suc maxProbeBytes) (runProbe f list)
 unfolding runProbe

@@ -15,7 +15,7 @@ use Rattle.facts.specs.State.{checkEach, checkWith, checkState}
 use Rattle.facts.specs.StateLaws.{with-width, with-values}
 use Rattle.estimate.specs.Number.{Number}
 use Rattle.estimate.specs.Additive.{estimateFile}
-use Rattle.taskfile.specs.Task.{Action, Task, cost}
+use Rattle.taskfile.specs.Task.{Action, Task, walk}
 use Rattle.taskfile.specs.TaskFile.{actionOf, readTask, askTask, costTask}
 use Rattle.relaxation.specs.RelaxedTask.{goodSet, checkRelaxed}
 use Rattle.relaxation.specs.RelaxedTaskLaws.{set-empty, set-stray}
@@ -183,7 +183,7 @@ module _ {A : Type 0} {Bad : ℕ → ℕ → Type 0} (checks : List ℕ → List
 
 -- what an action costs in a state
 pub cost-row : (f : List ℕ) (a : ℕ) (s : List ℕ) (n p : ℕ) → (costTask f a s ≡ refused n p) ↔ Given (readTask f) (λ t. AskFault Beyond t a s n p) n p
-cost-row f a s n p = ask-row checkState cost state-check f a s n p
+cost-row f a s n p = ask-row checkState walk state-check f a s n p
 
 -- ---- what is refused, by its number
 

@@ -120,6 +120,23 @@ pub fn count(name: &[u8], n: u32) {
     reply(&line, end);
 }
 
+// What an action costs, and how many nodes it passes.
+pub fn costed(cost: u32, passed: usize) {
+    let mut lines = [0; LINE];
+    let first = report::put_count(&mut lines, 0, b"cost", cost);
+    let end = report::put_around(&mut lines, first, b"nodes ", passed, b"\n");
+    reply(&lines, end);
+}
+
+// The sum of a plan, how many nodes its actions pass, and how many steps its probe list has.
+pub fn ran(sum: u32, passed: usize, steps: usize) {
+    let mut lines = [0; LINE];
+    let first = report::put_count(&mut lines, 0, b"sum", sum);
+    let second = report::put_around(&mut lines, first, b"nodes ", passed, b"\n");
+    let end = report::put_around(&mut lines, second, b"steps ", steps, b"\n");
+    reply(&lines, end);
+}
+
 // An estimate.
 pub fn estimated(e: Est) {
     let mut line = [0; LINE];

@@ -18,7 +18,7 @@ ghost use Rattle.facts.specs.Partial.{partialAt};
 ghost use Rattle.facts.specs.State.{Inside};
 ghost use Rattle.taskfile.specs.Task.{maxList, maxEntries};
 ghost use Rattle.taskfile.specs.Index.{Ready};
-ghost use Rattle.taskfile.specs.TaskFile.{runTask};
+ghost use Rattle.taskfile.specs.TaskFile.{sumTask};
 ghost use Rattle.taskfile.specs.WalkInPlace.{moveAt, runList};
 ghost use Rattle.taskfile.specs.PartsInPlace.{actionsIn};
 ghost use Rattle.plans.specs.Carry.{expandFrom};
@@ -34,7 +34,7 @@ pub fn put_plan(
     out: &mut [u16],
 ) -> Carried
     requires { ⌜ Ready (now file) variables actions (now row) × (length (now list) ≤ maxList) × (maxEntries * length (now list) ≤ length (now out)) ⌝ }
-    ensures { λ r. ⌜ WroteIf r (runTask (now (file .entry)) (now (list .entry))) (expansion (now (file .entry)) (now (list .entry))) (now (out .entry)) (now (out .exit)) ⌝ }
+    ensures { λ r. ⌜ WroteIf r (sumTask (now (file .entry)) (now (list .entry))) (expansion (now (file .entry)) (now (list .entry))) (now (out .entry)) (now (out .exit)) ⌝ }
 {
     let last = 1 + variables;
     let sizes = &file[1..last];

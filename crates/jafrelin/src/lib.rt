@@ -14,7 +14,7 @@ ghost use Rattle.carry.specs.CarryFile.{expanded, contracted, answerIn, bufferI
 ghost use Rattle.words.specs.DescribeFile.{shown, drawn, drawnAction};
 ghost use Rattle.trace.specs.TraceFile.{traced};
 ghost use Rattle.sentence.specs.Sentence.{subjectOf, sentence};
-ghost use Rattle.packing.specs.Packing.{packedCheck, packedSum, packedLength, packedList, packedEstimate, refusalOf, placeOf};
+ghost use Rattle.packing.specs.Packing.{packedCheck, packedSum, packedWalk, packedLength, packedList, packedEstimate, refusalOf, placeOf};
 
 // Whether a task file is accepted.
 #[no_mangle]
@@ -32,12 +32,12 @@ pub extern "C" fn jafrelin_check_probe(file: &[u8]) -> u64
     packing::checked(probe::check(file))
 }
 
-// The cost of an action in a state.
+// The cost of an action in a state, and how many nodes it passes.
 #[no_mangle]
 pub extern "C" fn jafrelin_cost(file: &[u8], action: u64, state: &[u8]) -> u64
-    ensures { λ r. ⌜ r ≡ packedSum (costTask (now (file .entry)) action (now (state .entry))) ⌝ }
+    ensures { λ r. ⌜ r ≡ packedWalk (costTask (now (file .entry)) action (now (state .entry))) ⌝ }
 {
-    packing::costed(task::cost(file, action as usize, state))
+    packing::tallied(task::cost(file, action as usize, state))
 }
 
 // The least cost of an action over all states in a relaxed state that meet its precondition.
@@ -48,12 +48,12 @@ pub extern "C" fn jafrelin_relaxed_cost(file: &[u8], action: u64, sets: &[u8]) -
     packing::costed(task_relaxed::relaxed_cost(file, action as usize, sets))
 }
 
-// The sum of a list of actions.
+// The sum of a list of actions, and how many nodes they pass.
 #[no_mangle]
 pub extern "C" fn jafrelin_run_task(file: &[u8], list: &[u16]) -> u64
-    ensures { λ r. ⌜ r ≡ packedSum (runTask (now (file .entry)) (now (list .entry))) ⌝ }
+    ensures { λ r. ⌜ r ≡ packedWalk (runTask (now (file .entry)) (now (list .entry))) ⌝ }
 {
-    packing::ran(task::run(file, list))
+    packing::tallied(task::run(file, list))
 }
 
 // The sum of a list of steps.

@@ -11,7 +11,7 @@ use borrow.Rule.Slice.PartMut.{putMid}
 use Rattle.facts.specs.Lists.{total, At}
 use Rattle.facts.specs.ListLaws.{look, at-length}
 use Rattle.facts.specs.Read.{Read, accepted, refused, _>>=_}
-use Rattle.facts.specs.ReadLaws.{through, not-made, bind-assoc}
+use Rattle.facts.specs.ReadLaws.{through, not-made}
 use Rattle.facts.specs.Partial.{Partial, holds, apply, partialAt, pastPartial}
 use Rattle.facts.specs.PartialLaws.{apply-inside}
 use Rattle.facts.specs.State.{Inside}
@@ -19,8 +19,8 @@ use Rattle.facts.specs.Write.{over, Wrote}
 use Rattle.facts.specs.WriteLaws.{over-front}
 use Rattle.facts.specs.Run.{next as went, attempt, atMost}
 use Rattle.facts.specs.RunLaws.{attempt-next, attempt-blocked, not-blocked, list-long}
-use Rattle.taskfile.specs.Task.{Action, Task, Walk, maxList, taskSum, Plan, WfAction, maxEntries}
-use Rattle.taskfile.specs.TaskFile.{readTask, checkTask, runTask}
+use Rattle.taskfile.specs.Task.{Action, Task, Walk, maxList, Plan, WfAction, maxEntries}
+use Rattle.taskfile.specs.TaskFile.{readTask, checkTask, sumTask}
 use Rattle.taskfile.specs.TaskReadLaws.{task-wf, task-limits}
 use Rattle.taskfile.specs.TaskLaws.{task-plan}
 use Rattle.taskfile.specs.Index.{Ready}
@@ -34,7 +34,7 @@ use Rattle.probe_writer.specs.ExtentLaws.{weighs}
 use Rattle.facts.specs.WriteRowLaws.{Cut, Going, going-more, going-end}
 use Rattle.plans.specs.Carry.{actionList, expandFrom, expand}
 use Rattle.plans.specs.ListLaws.{total-take}
-use Rattle.plans.specs.LengthLaws.{expand-limit}
+use Rattle.plans.specs.LengthLaws.{expand-limit, expand-entries}
 use Rattle.carry.specs.CarryFile.{expanded}
 use Rattle.numbering.specs.InPlace.{Edges, Numbered, Writable, expansion, WroteIf, Prepared}
 use Rattle.numbering.specs.NumberLaws.{actions-at, total-next, actions-are, steps-few, all-tested}
@@ -42,6 +42,7 @@ use Rattle.carry.specs.AnswerLaws.{entry-room, entry-more}
 use Rattle.carry.specs.declared.Carried.{Carried}
 use Rattle.carry.specs.declared.Carried.the-variants.{List as Listed, Refused as NotCarried}
 use Rattle.carry.specs.SameSumLaws.{expanded-plan, fits-inv}
+use Rattle.carry.specs.LongList.{sum-of-expanded}
 use Rattle.probefile.specs.Probe.{maxSteps}
 
 -- The state after what applied.
@@ -129,8 +130,8 @@ record Ran-plan (t : Task) (list : List ℕ) (c : ℕ) : Type 0 where
 
 module _ (f : List ℕ) {t : Task} (h : readTask f ≡ accepted t) (list : List ℕ) where
   -- A list that runs is a plan.
-  ran-plan : {c : ℕ} → runTask f list ≡ accepted c → Ran-plan t list c
-  unfolding runTask
+  ran-plan : {c : ℕ} → sumTask f list ≡ accepted c → Ran-plan t list c
+  unfolding sumTask
   ran-plan {c} r =
       let a = through (readTask f) r in
       let b = through (atMost maxList list) (a .then) in
@@ -143,11 +144,8 @@ module _ (f : List ℕ) {t : Task} (h : readTask f ≡ accepted t) (list : List 
   expansion-is r = rw (expanded-plan f h (r .plan) (r .few), expansion)
 
   -- It has at most 26 steps for each action.
-  pub expansion-few : {c : ℕ} → runTask f list ≡ accepted c → length (expansion f list) ≤ maxEntries * length list
-  unfolding expand
-  expansion-few r =
-      let wf = task-wf f h in
-      rw (expansion-is (ran-plan r)) (expand-limit {sizes = t .sizes} {actions = t .actions} (λ a x o. wf .actions o) (task-limits f h .variables) list (t .init) (wf .init))
+  pub expansion-few : {c : ℕ} → sumTask f list ≡ accepted c → length (expansion f list) ≤ maxEntries * length list
+  expansion-few r = rw (expansion-is (ran-plan r)) (expand-entries t (task-wf f h) (task-limits f h) list)
 
 module _ (f : List ℕ) {variables count : ℕ} {row : List ℕ} (ready : Ready f variables count row) where
   -- the file's task
@@ -173,12 +171,12 @@ module _ (f : List ℕ) {variables count : ℕ} {row : List ℕ} (ready : Ready 
       }
 
   -- What is written from the initial state on is the expansion.
-  entries-are : (list : List ℕ) {sizes state : List ℕ} {c : ℕ} → runTask f list ≡ accepted c → sizes ≡ t .sizes → state ≡ t .init → expandFrom (actionsIn f sizes row 0 count) list state ≡ expansion f list
+  entries-are : (list : List ℕ) {sizes state : List ℕ} {c : ℕ} → sumTask f list ≡ accepted c → sizes ≡ t .sizes → state ≡ t .init → expandFrom (actionsIn f sizes row 0 count) list state ≡ expansion f list
   unfolding expand
   entries-are list r e s = rw (e, s, actions-in-place f ready) (sym (expansion-is f (reads f ready) list (ran-plan f (reads f ready) list r)))
 
-  pub wrote-expansion : (list before now : List ℕ) {sizes state : List ℕ} {ran : Read ℕ} (r : Carried) → sizes ≡ t .sizes → state ≡ t .init → ran ≡ runTask f list
-      → WroteIf r ran (expandFrom (actionsIn f sizes row 0 count) list state) before now → WroteIf r (runTask f list) (expansion f list) before now
+  pub wrote-expansion : (list before now : List ℕ) {sizes state : List ℕ} {ran : Read ℕ} (r : Carried) → sizes ≡ t .sizes → state ≡ t .init → ran ≡ sumTask f list
+      → WroteIf r ran (expandFrom (actionsIn f sizes row 0 count) list state) before now → WroteIf r (sumTask f list) (expansion f list) before now
   wrote-expansion list before now (Listed n sum) e s same (h, w) = let runs = h ∙ same in (runs, subst (λ (es : List ℕ). Wrote es before now n) (entries-are list (sym runs) e s) w)
   wrote-expansion list before now (NotCarried why) e s same h = h ∙ same
 
@@ -196,14 +194,11 @@ module _ (f : List ℕ) {t : Task} (h : readTask f ≡ accepted t) (list : List 
   expand-long l = rw (h, list-long maxList list l)
 
   -- A refused list.
-  pub expand-no-list : {n p : ℕ} → runTask f list ≡ refused n p → expanded f list ≡ refused n p
-  unfolding runTask expanded
-  expand-no-list {n} {p} r =
-      let ran : _>>=_ (atMost maxList list) (λ u. taskSum t list) ≡ refused n p = rw h at r in
-      rw h (sym (bind-assoc (atMost maxList list) (λ u. taskSum t list) (λ c. accepted (expand t list, c))) ∙ ap (λ (m : Read ℕ). _>>=_ m (λ c. accepted (expand t list, c))) ran)
+  pub expand-no-list : {n p : ℕ} → sumTask f list ≡ refused n p → expanded f list ≡ refused n p
+  expand-no-list r = not-made (λ (c : List ℕ × ℕ). c .1) (expanded f list) (sum-of-expanded f list ∙ r)
 
   -- A plan.
-  pub expand-plan : {c : ℕ} → runTask f list ≡ accepted c → expanded f list ≡ accepted (expansion f list, c)
+  pub expand-plan : {c : ℕ} → sumTask f list ≡ accepted c → expanded f list ≡ accepted (expansion f list, c)
   expand-plan {c} r = let ran = ran-plan f h list r in expanded-plan f h (ran .plan) (ran .few) ∙ ap (λ (l : List ℕ). accepted (l, c)) (sym (expansion-is f h list ran))
 
 -- What was written stands at the front.

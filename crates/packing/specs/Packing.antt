@@ -2,6 +2,7 @@
 use Prim.Native.Nat.{ℕ, zero, suc, _+_, _*_, _/_, _%_}
 use Rattle.facts.specs.Read.{Read, accepted, refused}
 use Rattle.estimate.specs.Number.{Number, exact, over, never}
+use Rattle.taskfile.specs.Task.{Walk}
 
 -- bits 63 to 56, bits 55 to 32, and bits 31 to 0
 abbrev pub packed : ℕ → ℕ → ℕ → ℕ
@@ -16,10 +17,15 @@ abbrev pub packedCheck : Read (Unit {0}) → ℕ
 packedCheck (accepted u) = packed 0 0 0
 packedCheck (refused number place) = packedRefusal number place
 
--- a cost or a sum: below
+-- a relaxed cost, or the sum of a probe list: below
 abbrev pub packedSum : Read ℕ → ℕ
 packedSum (accepted sum) = packed 0 0 sum
 packedSum (refused number place) = packedRefusal number place
+
+-- a number of nodes passed in the middle, a cost or a sum below
+abbrev pub packedWalk : Read Walk → ℕ
+packedWalk (accepted w) = packed 0 (w .passed) (w .cost)
+packedWalk (refused number place) = packedRefusal number place
 
 -- the length of a file that was written: in the middle
 abbrev pub packedLength : Read ℕ → ℕ
@@ -51,6 +57,10 @@ refusalOf w = w / 72057594037927936
 abbrev pub lengthOf : ℕ → ℕ
 lengthOf w = w / 4294967296 % 16777216
 
+-- JAFRELIN_NODES: the same bits
+abbrev pub nodesOf : ℕ → ℕ
+nodesOf w = lengthOf w
+
 -- JAFRELIN_SUM and JAFRELIN_PLACE: bits 31 to 0
 abbrev pub sumOf : ℕ → ℕ
 sumOf w = w % 4294967296
@@ -68,6 +78,9 @@ unpackedCheck w = unpacked (λ w. tt) w
 
 abbrev pub unpackedSum : ℕ → Read ℕ
 unpackedSum w = unpacked sumOf w
+
+abbrev pub unpackedWalk : ℕ → Read Walk
+unpackedWalk w = unpacked (λ w. record { cost = sumOf w; passed = nodesOf w }) w
 
 abbrev pub unpackedLength : ℕ → Read ℕ
 unpackedLength w = unpacked lengthOf w

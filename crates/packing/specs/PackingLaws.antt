@@ -9,6 +9,7 @@ use mathlib.Core.List.{List}
 use Rattle.facts.specs.Read.{Read, accepted, refused}
 use Rattle.facts.specs.Bytes.{Bytes}
 use Rattle.estimate.specs.Number.{Number, exact, over, never, WithinCap}
+use Rattle.taskfile.specs.Task.{Walk}
 use Rattle.taskfile.specs.TaskFile.{checkTask, costTask, runTask}
 use Rattle.probefile.specs.ProbeFile.{checkProbe, runProbe}
 use Rattle.probe_estimate.specs.Estimate.{estimateProbe}
@@ -18,8 +19,8 @@ use Rattle.compilation.specs.CompileFile.{compileFile}
 use Rattle.carry.specs.CarryFile.{expanded, contracted, answerIn}
 use Rattle.cases.specs.Numbers.{OfLists, OfCosts, numbers-of-checks, numbers-of-lists, numbers-of-costs, numbers-of-estimates, numbers-of-compiling, numbers-of-carrying}
 use Rattle.cases.specs.PlaceLaws.{Within, value, place}
-use Rattle.cases.specs.Ranges.{Written, check-task-range, check-probe-range, cost-range, relaxed-range, run-task-range, run-probe-range, estimate-task-range, estimate-probe-range, compile-range, expand-range, contract-range}
-use Rattle.packing.specs.Packing.{packed, packedRefusal, packedCheck, packedSum, packedLength, packedList, packedEstimate, refusalOf, lengthOf, sumOf, placeOf, unpacked, unpackedCheck, unpackedSum, unpackedLength, unpackedList, unpackedNumber, unpackedEstimate}
+use Rattle.cases.specs.Ranges.{Walked, Written, check-task-range, check-probe-range, cost-range, relaxed-range, run-task-range, run-probe-range, estimate-task-range, estimate-probe-range, compile-range, expand-range, contract-range}
+use Rattle.packing.specs.Packing.{packed, packedRefusal, packedCheck, packedSum, packedWalk, packedLength, packedList, packedEstimate, refusalOf, lengthOf, nodesOf, sumOf, placeOf, unpacked, unpackedCheck, unpackedSum, unpackedWalk, unpackedLength, unpackedList, unpackedNumber, unpackedEstimate}
 
 -- ---- the theorem
 
@@ -27,9 +28,9 @@ use Rattle.packing.specs.Packing.{packed, packedRefusal, packedCheck, pa
 pub record Results (f : List ℕ) : Type 0 where
   pub check-task : unpackedCheck (packedCheck (checkTask f)) ≡ checkTask f
   pub check-probe : unpackedCheck (packedCheck (checkProbe f)) ≡ checkProbe f
-  pub cost : (a : ℕ) (s : List ℕ) → unpackedSum (packedSum (costTask f a s)) ≡ costTask f a s
+  pub cost : (a : ℕ) (s : List ℕ) → unpackedWalk (packedWalk (costTask f a s)) ≡ costTask f a s
   pub relaxed-cost : (a : ℕ) (sets : List ℕ) → unpackedSum (packedSum (relaxedTask f a sets)) ≡ relaxedTask f a sets
-  pub run-task : (list : List ℕ) → unpackedSum (packedSum (runTask f list)) ≡ runTask f list
+  pub run-task : (list : List ℕ) → unpackedWalk (packedWalk (runTask f list)) ≡ runTask f list
   pub run-probe : (list : List ℕ) → unpackedSum (packedSum (runProbe f list)) ≡ runProbe f list
   pub estimate-task : (s : List ℕ) → unpackedEstimate (packedEstimate (estimateTask f s)) ≡ estimateTask f s
   pub estimate-probe : (s : List ℕ) → unpackedEstimate (packedEstimate (estimateProbe f s)) ≡ estimateProbe f s
@@ -94,6 +95,14 @@ module _ {most : ℕ} (small : most < 4294967296) where
   sum-back : {dear : ℕ} {r : Read ℕ} → dear < 4294967296 → Within (λ sum. sum ≤ dear) most r → Numbered r → unpackedSum (packedSum r) ≡ r
   sum-back d w named = back sumOf packedSum (λ sum g. value-back sumOf (refusal-of 0 0 sum) (sum-of 0 0 sum (omega arith))) (λ n p. refl) small w named
 
+  walk-back : {long dear : ℕ} {r : Read Walk} → long < 16777216 → dear < 4294967296 → Within (Walked long dear) most r → Numbered r → unpackedWalk (packedWalk r) ≡ r
+  walk-back l d w named =
+      let parts : ℕ → Walk = λ w. record { cost = sumOf w; passed = nodesOf w } in
+      back parts packedWalk (λ w g.
+      let n = w .passed in
+      let sum = w .cost in
+      value-back parts (refusal-of 0 n sum) (ap₂ (λ (n sum : ℕ). record { cost = sum; passed = n }) (length-of 0 n sum (omega (arith, g .0))) (sum-of 0 n sum (omega (arith, g .1))))) (λ n p. refl) small w named
+
   length-back : {long : ℕ} {r : Read ℕ} → long < 16777216 → Within (λ n. n ≤ long) most r → Numbered r → unpackedLength (packedLength r) ≡ r
   length-back d w named = back lengthOf packedLength (λ n g. length-comes n (omega arith)) (λ n p. refl) small w named
 
@@ -127,9 +136,9 @@ pub results : (f : List ℕ) → Bytes f → Results f
 results f bytes = record {
   check-task = check-back (omega arith) (check-task-range f) (λ n p h. numbers-of-checks f n p .0 h .0);
   check-probe = check-back (omega arith) (check-probe-range f) (λ n p h. numbers-of-checks f n p .1 h .0);
-  cost = λ a s. sum-back (omega arith) (omega arith) (cost-range f bytes a s) (λ n p h. of-costs (numbers-of-costs f a s n p .0 h));
+  cost = λ a s. walk-back (omega arith) (omega arith) (omega arith) (cost-range f bytes a s) (λ n p h. of-costs (numbers-of-costs f a s n p .0 h));
   relaxed-cost = λ a sets. sum-back (omega arith) (omega arith) (relaxed-range f bytes a sets) (λ n p h. elim (numbers-of-costs f a sets n p .1 h) [ inl u ↦ of-costs u | inr e ↦ omega arith ]);
-  run-task = λ list. sum-back (omega arith) (omega arith) (run-task-range f bytes list) (λ n p h. of-lists (numbers-of-lists f list n p .0 h));
+  run-task = λ list. walk-back (omega arith) (omega arith) (omega arith) (run-task-range f bytes list) (λ n p h. of-lists (numbers-of-lists f list n p .0 h));
   run-probe = λ list. sum-back (omega arith) (omega arith) (run-probe-range f bytes list) (λ n p h. elim (numbers-of-lists f list n p .1 h) [ inl u ↦ u .0 | inr u ↦ omega (arith, u .0) ]);
   estimate-task = λ s. estimate-back (omega arith) (estimate-task-range f s) (λ n p h. elim (numbers-of-estimates f s n p .0 h) [ inl u ↦ u .0 | inr e ↦ omega arith ]);
   estimate-probe = λ s. estimate-back (omega arith) (estimate-probe-range f bytes s) (λ n p h. elim (numbers-of-estimates f s n p .1 h) [ inl u ↦ u .0 | inr e ↦ omega arith ]);

@@ -7,17 +7,18 @@ use facts::Checked;
 use facts::Ran;
 use facts::Refusal;
 use taskfile::Costed;
+use taskfile::Tallied;
 use words::Described;
 ghost use mathlib.Core.Path.{_≡_};
 ghost use Rattle.facts.specs.Refusal.{number, place};
 ghost use Rattle.facts.specs.Answers.{checkedAnswer, ranAnswer};
 ghost use Rattle.estimate.specs.Number.{number as estNumber};
 ghost use Rattle.estimate.specs.Answers.{estimatedAnswer};
-ghost use Rattle.taskfile.specs.Answers.{costedAnswer};
+ghost use Rattle.taskfile.specs.Answers.{talliedAnswer, costedAnswer};
 ghost use Rattle.compilation.specs.CompileFile.{compiledAnswer};
 ghost use Rattle.carry.specs.Answers.{carriedAnswer};
 ghost use Rattle.words.specs.Answers.{describedAnswer};
-ghost use Rattle.packing.specs.Packing.{packed, packedRefusal, packedCheck, packedSum, packedLength, packedList, packedNumber, packedEstimate};
+ghost use Rattle.packing.specs.Packing.{packed, packedRefusal, packedCheck, packedSum, packedWalk, packedLength, packedList, packedNumber, packedEstimate};
 
 // Three numbers in their bits.
 fn pack(number: u8, upper: u64, lower: u64) -> u64
@@ -47,7 +48,7 @@ pub fn checked(answer: Checked) -> u64
     }
 }
 
-// The cost of an action.
+// The relaxed cost of an action.
 pub fn costed(answer: Costed) -> u64
     ensures { λ r. ⌜ r ≡ packedSum (costedAnswer answer) ⌝ }
 {
@@ -57,7 +58,17 @@ pub fn costed(answer: Costed) -> u64
     }
 }
 
-// The sum of a run.
+// What an action or a list of them costs, and how many nodes are passed.
+pub fn tallied(answer: Tallied) -> u64
+    ensures { λ r. ⌜ r ≡ packedWalk (talliedAnswer answer) ⌝ }
+{
+    match answer {
+        Tallied::Sum(sum, passed) => pack(0, passed as u64, sum as u64),
+        Tallied::Refused(why) => refusal(why),
+    }
+}
+
+// The sum of a probe list.
 pub fn ran(answer: Ran) -> u64
     ensures { λ r. ⌜ r ≡ packedSum (ranAnswer answer) ⌝ }
 {

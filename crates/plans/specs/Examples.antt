@@ -3,7 +3,7 @@ use mathlib.Core.Path.{_≡_, refl}
 use mathlib.Core.List.{[], _∷_}
 use Rattle.facts.specs.Read.{accepted, refused}
 use Rattle.facts.specs.Run.{runFrom}
-use Rattle.taskfile.specs.Task.{walkFrom, walk, actionMove, taskSum}
+use Rattle.taskfile.specs.Task.{walkFrom, walk, actionMove, actionPasses, taskSum, taskPassed, taskRun}
 use Rattle.taskfile.specs.Examples.{P}
 use Rattle.probefile.specs.Probe.{stepMove, probeSum}
 use Rattle.compilation.specs.Compile.{stepsOf, probeOf}
@@ -24,6 +24,11 @@ P-contracts-twice = refl
 P-sum-twice : taskSum P (0 ∷ 0 ∷ []) ≡ accepted 11
 unfolding walkFrom walk actionMove runFrom taskSum
 P-sum-twice = refl
+
+-- two actions and two nodes: six entries
+P-run-twice : taskRun P (0 ∷ 0 ∷ []) ≡ accepted (record { cost = 11; passed = 2 })
+unfolding walkFrom walk actionMove actionPasses runFrom taskSum taskPassed taskRun
+P-run-twice = refl
 
 P-probe-sum-twice : probeSum (probeOf P) (expand P (0 ∷ 0 ∷ [])) ≡ accepted 11
 unfolding stepMove runFrom probeSum stepsOf probeOf expand

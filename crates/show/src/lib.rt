@@ -28,6 +28,13 @@ pub fn count(name: &[u8], value: u32) {
     write(&line, n);
 }
 
+// How many nodes are passed.
+pub fn nodes(passed: usize) {
+    let mut line = [0; LINE];
+    let n = report::put_around(&mut line, 0, b"nodes ", passed, b"\n");
+    write(&line, n);
+}
+
 // Whether a file is accepted.
 pub fn checked(answer: Checked) {
     match answer {

@@ -1,5 +1,6 @@
 // Runs the known cases about tasks (document 01) with the code itself; what it writes is compared with the file stdout.
 use taskfile::Costed;
+use taskfile::Tallied;
 use taskfile::Task;
 
 fn main() {
@@ -23,11 +24,11 @@ fn main() {
     let missing: [u16; 1] = [1];
     let longest: [u16; Task::MAX_LIST] = [0; Task::MAX_LIST];
     let long: [u16; Task::MAX_LIST + 1] = [0; Task::MAX_LIST + 1];
-    show::ran(task::run(p, &once));
-    show::ran(task::run(p, &none));
-    show::ran(task::run(p, &missing));
-    show::ran(task::run(p, &longest));
-    show::ran(task::run(p, &long));
+    show_run(p, &once);
+    show_run(p, &none);
+    show_run(p, &missing);
+    show_run(p, &longest);
+    show_run(p, &long);
     show_cost(p, 0, b"\x00");
     show_cost(p, 0, b"\x01");
     show_cost(p, 0, b"\x00\x00");
@@ -38,6 +39,7 @@ fn main() {
         b"\x03\x02\x03\x02\x00\x00\x00\x00\x00\x00\x00\x00\x00\x00\x00\x01\x00\x00\x00\x00\x00\x00\x00\x00\x00\x00\x00\x00\x00\x00\x00\x00\x02\x00\x03\x00\x03\x00\x00\x02\x00\x00\x01\x03\x00\x00\x03\x01\x00\x03\x04\x00\x02\x04\x00\x00\x04\x01\x00";
     show_cost(xyz, 0, b"\x01\x02\x00");
     show_cost(xyz, 0, b"\x00\x02\x01");
+    show_run(xyz, &once);
     show_relaxed(xyz, 0, b"\x03\x06\x01");
     show_relaxed(xyz, 0, b"\x02\x06\x03");
     show_relaxed(b"", 1, b"");
@@ -90,17 +92,27 @@ fn estimates(p: &[u8]) {
     ));
 }
 
+fn show_run(file: &[u8], list: &[u16]) {
+    show_tallied(b"sum", task::run(file, list));
+}
+
 fn show_cost(file: &[u8], action: usize, state: &[u8]) {
-    show_costed(b"cost", task::cost(file, action, state));
+    show_tallied(b"cost", task::cost(file, action, state));
+}
+
+fn show_tallied(what: &[u8], answer: Tallied) {
+    match answer {
+        Tallied::Sum(sum, passed) => {
+            show::count(what, sum);
+            show::nodes(passed);
+        }
+        Tallied::Refused(why) => show::refusal(why),
+    }
 }
 
 fn show_relaxed(file: &[u8], action: usize, sets: &[u8]) {
-    show_costed(b"relaxed", task_relaxed::relaxed_cost(file, action, sets));
-}
-
-fn show_costed(what: &[u8], answer: Costed) {
-    match answer {
-        Costed::Cost(cost) => show::count(what, cost),
+    match task_relaxed::relaxed_cost(file, action, sets) {
+        Costed::Cost(cost) => show::count(b"relaxed", cost),
         Costed::Refused(why) => show::refusal(why),
     }
 }

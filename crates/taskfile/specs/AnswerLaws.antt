@@ -1,29 +1,32 @@
 -- Laws of what the operations answer on an accepted file, by its index.
-use mathlib.Core.Path.{_≡_, refl, sym, ap, _∙_}
+use mathlib.Core.Path.{_≡_, refl, sym, ap, ap₂, _∙_}
 use mathlib.Core.Option.{Option, none, some}
 use Prim.Native.Nat.{ℕ, _+_, _*_, _≤_, _<_}
 use native.Mathlib.Omega.{arith}
 use mathlib.Core.List.{List, []}
 use lib.ListN.{length, getD, getElem?, take, drop}
-use Rattle.facts.specs.Read.{Read, accepted, refused, _>>=_}
-use Rattle.facts.specs.ReadLaws.{not-refused, through, made, not-made}
+use Rattle.facts.specs.Read.{Read, accepted, refused, withValue, _>>=_}
+use Rattle.facts.specs.ReadLaws.{not-refused, through, made, not-made, withValue-bind, agree}
 use Rattle.facts.specs.Lists.{At}
 use Rattle.facts.specs.ListLaws.{at-getD, look, look-none, found}
 use Rattle.facts.specs.Partial.{partialAt}
 use Rattle.facts.specs.State.{checkState}
 use Rattle.facts.specs.StateLaws.{state-inside}
-use Rattle.facts.specs.Run.{atMost}
+use Rattle.facts.specs.Run.{Move, atMost}
 use Rattle.facts.specs.PartialReadLaws.{partial-read}
 use Rattle.facts.specs.HeadLaws.{head-read}
-use Rattle.taskfile.specs.Task.{Action, Task, Walk, maxList, cost, maxVariables, maxActions, maxValues}
-use Rattle.taskfile.specs.TaskFile.{readTask, checkTask, actionOf, askTask, runTask}
+use Rattle.taskfile.specs.Task.{Action, Task, Walk, maxList, walk, cost, taskSum, taskPassed, both, taskRun, maxVariables, maxActions, maxValues}
+use Rattle.taskfile.specs.TaskFile.{readTask, checkTask, actionOf, askTask, costTask, runTask, sumTask}
 use Rattle.taskfile.specs.TaskReadLaws.{task-read, task-limits}
-use Rattle.taskfile.specs.WalkInPlace.{walkAt, moveAt, runList}
+use Rattle.taskfile.specs.WalkInPlace.{walkAt, moveAt, passesAt, runList}
 use Rattle.taskfile.specs.WalkInPlaceLaws.{walk-in-place}
-use Rattle.taskfile.specs.MoveInPlaceLaws.{sum-in-place}
+use Rattle.taskfile.specs.MoveInPlaceLaws.{sum-in-place, passed-in-place}
 use Rattle.taskfile.specs.Row.{ownFrom}
 use Rattle.taskfile.specs.InPlace.{taskAt}
 use Rattle.taskfile.specs.Index.{Ready}
+use Rattle.taskfile.specs.Answers.{talliedAnswer, sumAnswer, passedAnswer}
+use Rattle.taskfile.specs.declared.Tallied.{Tallied}
+use Rattle.taskfile.specs.declared.Tallied.the-variants.{Sum, Refused}
 
 -- what the file's refusal does to the operations
 pub ask-refused : {A : Type 0} (checked : List ℕ → List ℕ → Read (Unit {0})) (answer : Action → List ℕ → A) (f : List ℕ) (a : ℕ) (s : List ℕ) {n p : ℕ} → checkTask f ≡ refused n p
@@ -34,6 +37,16 @@ ask-refused checked answer f a s h = rw (not-made (λ (t : Task). tt) (readTask 
 pub run-refused : (f list : List ℕ) {n p : ℕ} → checkTask f ≡ refused n p → runTask f list ≡ refused n p
 unfolding checkTask runTask
 run-refused f list h = rw (not-made (λ (t : Task). tt) (readTask f) h)
+
+-- what was counted together, from its parts
+pub tallied-both : (r : Tallied) → talliedAnswer r ≡ both (sumAnswer r) (passedAnswer r)
+tallied-both (Sum sum passed) = refl
+tallied-both (Refused why) = refl
+
+-- a limit of the list before two runs is one before each
+limit-each : (limit : Read (Unit {0})) (sum passed : Read ℕ) → _>>=_ limit (λ u. both sum passed) ≡ both (_>>=_ limit (λ u. sum)) (_>>=_ limit (λ u. passed))
+limit-each (accepted u) sum passed = refl
+limit-each (refused n p) sum passed = refl
 
 -- the action of a number is the one that is there
 pub action-there : {actions : List Action} {a : ℕ} {x : Action} → At actions a x → actionOf actions a ≡ accepted x
@@ -130,18 +143,35 @@ module _ (f : List ℕ) {n count : ℕ} {row : List ℕ} (ready : Ready f n coun
             let ok : checked (t .sizes) s ≡ accepted u = ap (λ (ds : List ℕ). checked ds s) (sym (sizes-there e)) ∙ h in
             rw (there .reads, x-is, ok) (ap accepted (sym (is x x-there ok)))
 
-  -- the cost of the action that is there, by its walk in place
-  pub walk-cost : (a : ℕ) (s : List ℕ) {u : Unit {0}} {x : Action} → At (t .actions) a x → checkState (t .sizes) s ≡ accepted u
-      → walkAt f (getD row a 0) (drop (ownFrom row a) row) s .cost ≡ cost x s
-  walk-cost a s {x = x} h ok = ap (λ (w : Walk). w .cost) (walk-in-place f (ready .located .lies t (there .reads) a x h) s (state-inside (t .sizes) s ok))
+  -- the walk of the action that is there is its walk in place
+  pub walk-is : (a : ℕ) (s : List ℕ) {u : Unit {0}} {x : Action} → At (t .actions) a x → checkState (t .sizes) s ≡ accepted u → walkAt f (getD row a 0) (drop (ownFrom row a) row) s ≡ walk x s
+  walk-is a s {x = x} h ok = walk-in-place f (ready .located .lies t (there .reads) a x h) s (state-inside (t .sizes) s ok)
 
   -- ---- runs
 
-  pub run-is : (list : List ℕ) → runTask f list ≡ runList count (moveAt f row) (partialAt f (1 + 2 * n)) list (take n (drop (1 + n) f))
-  unfolding runTask runList
-  run-is list =
-      rw (there .reads)
-      (ap (λ (sum : Read ℕ). _>>=_ (atMost maxList list) (λ u. sum)) (sym (sum-in-place f (there .reads) (ready .located) (sym (there .actions)) (1 + 2 * n) list (take n (drop (1 + n) f)) (starts .init) (starts .goal))))
+  -- the run of a list in place
+  abbrev inPlace : (ℕ → List ℕ → Move) → List ℕ → Read ℕ
+  inPlace move list = runList count move (partialAt f (1 + 2 * n)) list (take n (drop (1 + n) f))
+
+  module _ (list : List ℕ) where
+    pub sum-is : sumTask f list ≡ inPlace (moveAt f row) list
+    unfolding sumTask runList
+    sum-is =
+        rw (there .reads)
+        (ap (λ (sum : Read ℕ). _>>=_ (atMost maxList list) (λ u. sum)) (sym (sum-in-place f (there .reads) (ready .located) (sym (there .actions)) (1 + 2 * n) list (take n (drop (1 + n) f)) (starts .init) (starts .goal))))
+
+    -- the sum, and the nodes passed
+    pub run-is : runTask f list ≡ both (inPlace (moveAt f row) list) (inPlace (passesAt f row) list)
+    unfolding runTask taskRun runList
+    run-is =
+        let init = take n (drop (1 + n) f) in
+        let all = sym (there .actions) in
+        let within : Read ℕ → Read ℕ = λ r. _>>=_ (atMost maxList list) (λ u. r) in
+        rw (there .reads)
+        (limit-each (atMost maxList list) (taskSum t list) (taskPassed t list)
+        ∙ ap₂ (λ (sum passed : Read ℕ). both (within sum) (within passed))
+        (sym (sum-in-place f (there .reads) (ready .located) all (1 + 2 * n) list init (starts .init) (starts .goal)))
+        (sym (passed-in-place f (there .reads) (ready .located) all (1 + 2 * n) list init (starts .init) (starts .goal))))
 
 -- what is answered about an action of an accepted file
 pub record Asked {A : Type 0} (checked : List ℕ → List ℕ → Read (Unit {0})) (answer : Action → List ℕ → A) (f : List ℕ) (a : ℕ) (s : List ℕ) (y : A) : Type 0 where
@@ -160,3 +190,15 @@ ask-accepted checked answer f a s h =
     let x = through (actionOf (t .got .actions) a) (t .then) in
     let u = through (checked (t .got .sizes) s) (x .then) in
     record { task = t .got; reads = t .first; action = x .got; found = action-found (t .got .actions) a (x .first); good = u .first; is = let e = u .then in cc }
+
+-- What is made of an answer can be asked for by itself.
+ask-made : {A B : Type 0} (g : A → B) (checked : List ℕ → List ℕ → Read (Unit {0})) (answer : Action → List ℕ → A) (f : List ℕ) (a : ℕ) (s : List ℕ)
+    → withValue g (askTask checked answer f a s) ≡ askTask checked (λ x s. g (answer x s)) f a s
+unfolding askTask
+ask-made g checked answer f a s =
+    withValue-bind g (readTask f) _
+    ∙ agree (readTask f) _ _ (λ t h. withValue-bind g (actionOf (t .actions) a) _ ∙ agree (actionOf (t .actions) a) _ _ (λ x e. withValue-bind g (checked (t .sizes) s) _))
+
+-- So a cost is what it was without the nodes, and so are its refusals.
+pub cost-alone : (f : List ℕ) (a : ℕ) (s : List ℕ) → withValue (λ (w : Walk). w .cost) (costTask f a s) ≡ askTask checkState cost f a s
+cost-alone f a s = ask-made (λ (w : Walk). w .cost) checkState walk f a s

@@ -2,6 +2,7 @@
 use Prim.Native.Nat.{ℕ}
 use Rattle.facts.specs.Refusal.{number, place}
 use Rattle.facts.specs.Read.{Read, accepted, refused}
+use Rattle.taskfile.specs.Task.{Walk}
 use Rattle.taskfile.specs.declared.Drawn.{Drawn}
 use Rattle.taskfile.specs.declared.Drawn.the-variants.{Next as NextField, Refused as NotDrawn}
 use Rattle.taskfile.specs.declared.Counted.{Counted}
@@ -21,7 +22,12 @@ abbrev pub countedAnswer : Counted → Read (ℕ × ℕ)
 countedAnswer (Actions variables actions) = accepted (variables, actions)
 countedAnswer (NotCounted why) = refused (number why) (place why)
 
--- the sum of a run on a task, and how many nodes the walks of its actions pass
+-- what an action or a run on a task costs, and how many nodes are passed
+abbrev pub talliedAnswer : Tallied → Read Walk
+talliedAnswer (Sum sum passed) = accepted (record { cost = sum; passed = passed })
+talliedAnswer (NotTallied why) = refused (number why) (place why)
+
+-- each of the two by itself
 abbrev pub sumAnswer : Tallied → Read ℕ
 sumAnswer (Sum sum passed) = accepted sum
 sumAnswer (NotTallied why) = refused (number why) (place why)
@@ -30,7 +36,7 @@ abbrev pub passedAnswer : Tallied → Read ℕ
 passedAnswer (Sum sum passed) = accepted passed
 passedAnswer (NotTallied why) = refused (number why) (place why)
 
--- the cost of an action
+-- the relaxed cost of an action
 abbrev pub costedAnswer : Costed → Read ℕ
 costedAnswer (Cost cost) = accepted cost
 costedAnswer (NotCosted why) = refused (number why) (place why)

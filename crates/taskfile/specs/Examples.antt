@@ -9,7 +9,7 @@ use Rattle.facts.specs.Partial.{Partial, empty}
 use Rattle.facts.specs.State.{checkState}
 use Rattle.facts.specs.Run.{runFrom, atMost}
 use Rattle.facts.specs.Fields.{readNumber, field, readCount, readValue, readMap, readWeight, readValues, readPartial, readOperator, readSizes, readHead, readEnd}
-use Rattle.taskfile.specs.Task.{Edge, Action, Task, walkFrom, walk, actionMove, taskSum}
+use Rattle.taskfile.specs.Task.{Edge, Action, Task, walkFrom, walk, actionMove, actionPasses, taskSum, taskPassed, taskRun}
 use Rattle.taskfile.specs.TaskFile.{readVariable, readTarget, readEdge, readEdges, readNode, readNodes, readDiagram, readAction, readActions, readTask, checkTask, actionOf, askTask, costTask, runTask}
 
 -- ---- what an example opens: all definitions that lead from the bytes of a file to an answer
@@ -23,7 +23,7 @@ unfolding fields readVariable readTarget readEdge readEdges readNode readNodes r
 reading = tt
 
 running : Unit {0}
-unfolding walkFrom walk actionMove runFrom taskSum
+unfolding walkFrom walk actionMove actionPasses runFrom taskSum taskPassed taskRun
 running = tt
 
 unfoldable pub answering : Unit {0}
@@ -92,12 +92,12 @@ node-variable-01 = refl
 
 -- ---- the table: refusals 8 to 12, of lists and states
 
-pub list-0 : runTask P-bytes (0 ∷ []) ≡ accepted 8
+pub list-0 : runTask P-bytes (0 ∷ []) ≡ accepted (record { cost = 8; passed = 1 })
 unfolding answering
 list-0 = refl
 
--- at the limit: 8 once, then 3 each time
-list-of-256 : runTask P-bytes (replicate 256 0) ≡ accepted 773
+-- at the limit: 8 once, then 3 each time, and each time one node
+list-of-256 : runTask P-bytes (replicate 256 0) ≡ accepted (record { cost = 773; passed = 256 })
 unfolding answering
 list-of-256 = refl
 
@@ -122,7 +122,7 @@ unfolding answering
 list-1 = refl
 
 -- the file before the number, the number before the state, its length before its values
-cost-0 : costTask P-bytes 0 (0 ∷ []) ≡ accepted 8
+cost-0 : costTask P-bytes 0 (0 ∷ []) ≡ accepted (record { cost = 8; passed = 1 })
 unfolding answering
 cost-0 = refl
 
@@ -169,22 +169,24 @@ xy²+z+2-read : readTask xy²+z+2-bytes ≡ accepted (record { sizes = 2 ∷ 3 �
 unfolding reading
 xy²+z+2-read = refl
 
-pub costs-6 : costTask xy²+z+2-bytes 0 (1 ∷ 2 ∷ 0 ∷ []) ≡ accepted 6
+pub costs-6 : costTask xy²+z+2-bytes 0 (1 ∷ 2 ∷ 0 ∷ []) ≡ accepted (record { cost = 6; passed = 3 })
 unfolding answering
 costs-6 = refl
 
-pub costs-3 : costTask xy²+z+2-bytes 0 (0 ∷ 2 ∷ 1 ∷ []) ≡ accepted 3
+-- where x is 0, node 2 is not passed
+pub costs-3 : costTask xy²+z+2-bytes 0 (0 ∷ 2 ∷ 1 ∷ []) ≡ accepted (record { cost = 3; passed = 2 })
 unfolding answering
 costs-3 = refl
 
--- where x is 0, node 2 is not passed
-passes-3 : walk xy²+z+2 (1 ∷ 2 ∷ 0 ∷ []) ≡ record { cost = 6; passed = 3 }
-unfolding running
-passes-3 = refl
+-- nor by a run: two of the three nodes each time
+passes-2-twice : runTask xy²+z+2-bytes (0 ∷ 0 ∷ []) ≡ accepted (record { cost = 4; passed = 4 })
+unfolding answering
+passes-2-twice = refl
 
-passes-2 : walk xy²+z+2 (0 ∷ 2 ∷ 1 ∷ []) ≡ record { cost = 3; passed = 2 }
-unfolding running
-passes-2 = refl
+-- P without its node passes none
+passes-none : runTask (take 32 P-bytes ++ 0 ∷ []) (0 ∷ []) ≡ accepted (record { cost = 3; passed = 0 })
+unfolding answering
+passes-none = refl
 
 -- ---- the limits: 24 variables pass and 25 do not, likewise 8 values, 32 actions, 64 nodes
 

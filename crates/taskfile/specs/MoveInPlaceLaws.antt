@@ -16,7 +16,7 @@ use Rattle.facts.specs.InPlaceLaws.{alike-partial}
 use Rattle.facts.specs.State.{Inside}
 use Rattle.facts.specs.Run.{Move, next, blocked, attempt, runFrom}
 use Rattle.facts.specs.RunLaws.{attempt-length, run-missing, run-blocked, run-next, run-unmet, run-met, run-same, list-long, list-fits}
-use Rattle.taskfile.specs.Task.{Action, Task, Walk, maxList, walk, actionMove, actionPasses, taskSum}
+use Rattle.taskfile.specs.Task.{Action, Task, Walk, maxList, walk, actionMove, actionPasses, taskSum, taskPassed}
 use Rattle.taskfile.specs.TaskFile.{readTask}
 use Rattle.taskfile.specs.Row.{ownFrom}
 use Rattle.taskfile.specs.InPlace.{Located}
@@ -128,5 +128,6 @@ module _ (f : List ℕ) {t : Task} (r : readTask f ≡ accepted t) {row : List �
     unfolding taskSum
     sum-in-place = run-in-place (λ (w : Walk). w .cost) (actionMove (t .actions)) (λ a x s h. move-at (t .actions) s h) goal list init i g
 
-    pub passed-in-place : runFrom (count) (passesAt f row) (partialAt f goal) 0 0 list init ≡ runFrom (length (t .actions)) (actionPasses (t .actions)) (t .goal) 0 0 list (t .init)
+    pub passed-in-place : runFrom (count) (passesAt f row) (partialAt f goal) 0 0 list init ≡ taskPassed t list
+    unfolding taskPassed
     passed-in-place = run-in-place (λ (w : Walk). w .passed) (actionPasses (t .actions)) (λ a x s h. passes-at (t .actions) s h) goal list init i g

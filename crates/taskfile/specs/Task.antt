@@ -6,7 +6,7 @@ use mathlib.Core.Bool.{true, false}
 use mathlib.Core.List.{List, [], _∷_, map}
 use lib.Dec.{eqb}
 use lib.ListN.{length, getD, getElem?}
-use Rattle.facts.specs.Read.{Read}
+use Rattle.facts.specs.Read.{Read, accepted, _>>=_}
 use Rattle.facts.specs.Lists.{total, All, At}
 use Rattle.facts.specs.Partial.{Partial}
 use Rattle.facts.specs.State.{Inside}
@@ -142,6 +142,22 @@ actionPasses actions a s = elim (getElem? actions a) [ none ↦ blocked | some x
 -- the sum of a list of any length, run from the initial state, or the refusal
 unfoldable pub taskSum : Task → List ℕ → Read ℕ
 taskSum t list = runFrom (length (t .actions)) (actionMove (t .actions)) (t .goal) 0 0 list (t .init)
+
+-- how many nodes the walks of its actions pass, run likewise
+unfoldable pub taskPassed : Task → List ℕ → Read ℕ
+taskPassed t list = runFrom (length (t .actions)) (actionPasses (t .actions)) (t .goal) 0 0 list (t .init)
+
+-- the two numbers of a walk, or the first refusal
+abbrev pub both : Read ℕ → Read ℕ → Read Walk
+both costs passes = do
+  cost ← costs
+  passed ← passes
+  accepted (record { cost = cost; passed = passed })
+
+-- The run of a list of any length: the walks of its actions added up, that is the sum and the number of nodes passed, or the refusal. Document 02, W7: "The cost of an action shall carry the number of nodes passed on
+-- its path, and a run on a task the total."
+unfoldable pub taskRun : Task → List ℕ → Read Walk
+taskRun t list = both (taskSum t list) (taskPassed t list)
 
 -- `list` is a plan of the task with the sum c
 abbrev pub Plan : Task → List ℕ → ℕ → Type 0

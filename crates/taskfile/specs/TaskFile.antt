@@ -10,7 +10,7 @@ use Rattle.facts.specs.Lists.{upFrom}
 use Rattle.facts.specs.Fields.{each, field, readCount, readWeight, readOperator, readHead, readEnd}
 use Rattle.facts.specs.State.{checkState}
 use Rattle.facts.specs.Run.{atMost}
-use Rattle.taskfile.specs.Task.{Edge, Node, Action, Task, maxVariables, maxValues, maxActions, maxNodes, maxList, cost, taskSum, level}
+use Rattle.taskfile.specs.Task.{Edge, Node, Action, Task, Walk, maxVariables, maxValues, maxActions, maxNodes, maxList, walk, taskSum, taskRun, level}
 
 -- ---- how long a diagram's parts are
 
@@ -122,13 +122,20 @@ askTask checked answer f a s = do
   _ ← checked (t .sizes) s
   accepted (answer x s)
 
--- what action number a costs in the state s; 12 and then 4 for the state
-abbrev pub costTask : List ℕ → ℕ → List ℕ → Read ℕ
-costTask f a s = askTask checkState cost f a s
+-- what action number a costs in the state s, and how many nodes its walk passes; 12 and then 4 for the state
+abbrev pub costTask : List ℕ → ℕ → List ℕ → Read Walk
+costTask f a s = askTask checkState walk f a s
 
--- the sum of a list of at most 256 actions: 1 to 6 for the file, 8 for the list, then per action 11 before 9, and 10 at the end
-unfoldable pub runTask : List ℕ → List ℕ → Read ℕ
+-- the sum of a list of at most 256 actions, and how many nodes their walks pass: 1 to 6 for the file, 8 for the list, then per action 11 before 9, and 10 at the end
+unfoldable pub runTask : List ℕ → List ℕ → Read Walk
 runTask f list = do
+  t ← readTask f
+  _ ← atMost maxList list
+  taskRun t list
+
+-- the sum alone, which is all that expanding answers of a run
+unfoldable pub sumTask : List ℕ → List ℕ → Read ℕ
+sumTask f list = do
   t ← readTask f
   _ ← atMost maxList list
   taskSum t list

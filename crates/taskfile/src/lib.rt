@@ -68,13 +68,13 @@ pub enum Counted {
     Refused(Refusal),
 }
 
-// What an action costs.
+// What an action costs in a relaxed state.
 pub enum Costed {
     Cost(u32),
     Refused(Refusal),
 }
 
-// What a run on a task answers: the sum, and how many nodes the walks of its actions pass.
+// What an action costs in a state, or a list of actions in a run, and how many nodes are passed.
 pub enum Tallied {
     Sum(u32, usize),
     Refused(Refusal),

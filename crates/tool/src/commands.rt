@@ -8,10 +8,12 @@ use console::asking::Asked;
 use console::command::Command;
 use console::input::read_list;
 use console::input::read_state;
+use console::output::costed;
 use console::output::count;
 use console::output::estimated;
 use console::output::failed;
 use console::output::listed;
+use console::output::ran;
 use console::output::refuse;
 use console::output::reply;
 use console::output::within16;
@@ -21,6 +23,7 @@ use facts::Ran;
 use probefile::Probe;
 use report::Subject;
 use taskfile::Costed;
+use taskfile::Tallied;
 use taskfile::Task;
 use text::append::within;
 
@@ -77,8 +80,8 @@ pub fn on_list(asked: Asked, file: &[u8], next: usize) {
     let list = &entries[..n];
     let command = asked.command;
     match command {
-        Command::Run => summed(task::run(file, list), asked),
-        Command::Follow => summed(probe::run(file, list), asked),
+        Command::Run => run(file, list, asked),
+        Command::Follow => follow(file, list, asked),
         Command::Expand => expand(file, list, asked),
         Command::Contract => contract(file, list, asked),
         _ => steps(file, list, asked),
@@ -124,20 +127,24 @@ pub fn on_state(question: Question, file: &[u8], next: usize, asked: Asked) {
     let n = given.length;
     let state = &values[..n];
     match question {
-        Question::Cost(action) => costed(task::cost(file, action, state), Subject::State, asked),
-        Question::Relaxed(action) => costed(
-            task_relaxed::relaxed_cost(file, action, state),
-            Subject::Sets,
-            asked,
-        ),
+        Question::Cost(action) => cost(file, action, state, asked),
+        Question::Relaxed(action) => relaxed(file, action, state, asked),
         Question::TaskEstimate => number(task_estimate::estimate(file, state), asked),
         Question::ProbeEstimate => number(probe_estimate::estimate(file, state), asked),
     }
 }
 
-// A sum.
-fn summed(answer: Ran, asked: Asked) {
-    match answer {
+// The sum of a plan, the nodes that its actions pass, and the steps of its probe list: two for each action, and one for each node.
+fn run(file: &[u8], list: &[u16], asked: Asked) {
+    match task::run(file, list) {
+        Tallied::Sum(sum, passed) => ran(sum, passed, 2 * list.len() + passed),
+        Tallied::Refused(why) => refuse(asked, Subject::List, why),
+    }
+}
+
+// The sum of a probe list.
+fn follow(file: &[u8], list: &[u16], asked: Asked) {
+    match probe::run(file, list) {
         Ran::Sum(sum) => {
             count(b"sum", sum);
         }
@@ -156,13 +163,21 @@ fn carried(answer: Carried, out: &[u16], subject: Subject, asked: Asked) {
     }
 }
 
-// A cost.
-fn costed(answer: Costed, subject: Subject, asked: Asked) {
-    match answer {
-        Costed::Cost(n) => {
-            count(b"cost", n);
+// What an action costs in a state, and the nodes that it passes.
+fn cost(file: &[u8], action: usize, state: &[u8], asked: Asked) {
+    match task::cost(file, action, state) {
+        Tallied::Sum(cost, passed) => costed(cost, passed),
+        Tallied::Refused(why) => refuse(asked, Subject::State, why),
+    }
+}
+
+// What an action costs in a relaxed state.
+fn relaxed(file: &[u8], action: usize, sets: &[u8], asked: Asked) {
+    match task_relaxed::relaxed_cost(file, action, sets) {
+        Costed::Cost(cost) => {
+            count(b"cost", cost);
         }
-        Costed::Refused(why) => refuse(asked, subject, why),
+        Costed::Refused(why) => refuse(asked, Subject::Sets, why),
     }
 }
 

@@ -60,9 +60,9 @@ pub fn second(call: &Call, bytes: &mut [u8], entries: &mut [u16]) -> u64 {
     match call.operation {
         Operation::CheckTask => packed(crate::check_task(file).map(|()| (0, 0))),
         Operation::CheckProbe => packed(crate::check_probe(file).map(|()| (0, 0))),
-        Operation::Cost => packed(crate::cost(file, call.action, state).map(sum)),
+        Operation::Cost => packed(crate::cost(file, call.action, state)),
         Operation::RelaxedCost => packed(crate::relaxed_cost(file, call.action, state).map(sum)),
-        Operation::RunTask => packed(crate::run_task(file, list).map(sum)),
+        Operation::RunTask => packed(crate::run_task(file, list)),
         Operation::RunProbe => packed(crate::run_probe(file, list).map(sum)),
         Operation::EstimateTask => packed(crate::estimate_task(file, state).map(estimate)),
         Operation::EstimateProbe => packed(crate::estimate_probe(file, state).map(estimate)),
@@ -72,7 +72,7 @@ pub fn second(call: &Call, bytes: &mut [u8], entries: &mut [u16]) -> u64 {
     }
 }
 
-/// A sum or a cost, as the parts that are packed.
+/// A sum or a relaxed cost, as the parts that are packed.
 fn sum(sum: u32) -> (usize, u32) {
     (0, sum)
 }
@@ -86,10 +86,10 @@ pub fn estimate(estimate: Estimate) -> (usize, u32) {
     }
 }
 
-/// A length, or what kind of estimate it is, and a sum, cost or estimate; or the number and the place of a refusal.
+/// A length, the nodes passed or what kind of estimate it is, and a sum, cost or estimate; or the number and the place of a refusal.
 pub fn packed(answer: Answer<(usize, u32)>) -> u64 {
     match answer {
-        Ok((length, sum)) => (length as u64) << 32 | u64::from(sum),
+        Ok((middle, low)) => (middle as u64) << 32 | u64::from(low),
         Err(refusal) => refused(refusal.reason as u8, refusal.place),
     }
 }
@@ -104,8 +104,8 @@ pub fn number(answer: u64) -> u8 {
     (answer >> 56) as u8
 }
 
-/// The length written, or the kind of estimate, that an answer packs.
-pub fn length(answer: u64) -> usize {
+/// The length written, the nodes passed or the kind of estimate that an answer packs.
+pub fn middle(answer: u64) -> usize {
     (answer >> 32 & 0xff_ffff) as usize
 }
 
@@ -117,7 +117,7 @@ pub fn low(answer: u64) -> u32 {
 /// An answer in words.
 pub fn in_words(answer: u64) -> String {
     match number(answer) {
-        0 => format!("length or kind {}, sum {}", length(answer), low(answer)),
+        0 => format!("length, nodes or kind {}, sum {}", middle(answer), low(answer)),
         number => format!("refused {number} at {}", answer & 0xff_ffff_ffff_ffff),
     }
 }

@@ -156,13 +156,19 @@ fn estimate(goal: &Facts, numbers: &Numbers) -> Estimate {
     }
 }
 
-/// The sum of a list on a task.
-pub fn run_task(task: &TaskModel, list: &[u16]) -> Answer<u32> {
+/// How many nodes an action passes from node 1 to the terminal in a state, and its cost there.
+pub fn cost(action: &ActionModel, state: &[u8]) -> (usize, u32) {
+    let (cost, passed) = action.cost(state);
+    (passed.len(), cost)
+}
+
+/// The nodes that the actions of a list pass in all, and the sum of the list on a task.
+pub fn run_task(task: &TaskModel, list: &[u16]) -> Answer<(usize, u32)> {
     if list.len() > Task::LIST {
         return Reason::ListTooLong.at(Task::LIST);
     }
     let mut state = task.initial.clone();
-    let mut sum = 0;
+    let (mut nodes, mut sum) = (0, 0);
     for (index, &number) in list.iter().enumerate() {
         if usize::from(number) >= task.actions.len() {
             return Reason::NoSuchStep.at(index);
@@ -171,13 +177,15 @@ pub fn run_task(task: &TaskModel, list: &[u16]) -> Answer<u32> {
         if !holds(&action.precondition, &state) {
             return Reason::DoesNotApply.at(index);
         }
-        sum += action.cost(&state).0;
+        let (passed, cost) = cost(action, &state);
+        nodes += passed;
+        sum += cost;
         set(&action.effect, &mut state);
     }
     if !holds(&task.goal, &state) {
         return Reason::GoalNotMet.at(list.len());
     }
-    Ok(sum)
+    Ok((nodes, sum))
 }
 
 /// The sum of a list on a probe file.
@@ -269,7 +277,7 @@ pub fn starts(task: &TaskModel) -> Vec<u16> {
 
 /// The probe list that comes from a source plan, and the sum.
 pub fn expand(task: &TaskModel, list: &[u16]) -> Answer<(Vec<u16>, u32)> {
-    let sum = run_task(task, list)?;
+    let (_, sum) = run_task(task, list)?;
     let starts = starts(task);
     let mut state = task.initial.clone();
     let mut steps = Vec::new();

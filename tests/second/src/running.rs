@@ -1,29 +1,37 @@
-//! Lists run on a task and on a probe file, and the cost of an action in a state.
+//! Lists run on a task and on a probe file, and the cost of an action in a state; a cost and a run on a task come with the nodes passed.
 
 use crate::parts::{Action, Head, Node, Operator, Probe, State, Task};
 use crate::reading::TaskReader;
 use crate::refusal::{Answer, Reason};
 
-/// The cost of an action in a state, whether or not it applies there.
-pub fn cost(file: &[u8], action: u64, state: &[u8]) -> Answer<u32> {
+/// The nodes that an action passes in a state, and its cost there, whether or not it applies.
+pub fn cost(file: &[u8], action: u64, state: &[u8]) -> Answer<(usize, u32)> {
     let (head, action) = read_action(file, action)?;
     head.check_state(state, |value, size| value < size)?;
+    let mut nodes = (1..).zip(action.nodes(head.sizes));
+    let mut passed = 0;
     let mut sum = u32::from(action.operator.weight);
     let mut next = 1;
-    for (number, node) in (1..).zip(action.nodes(head.sizes)) {
-        if number == next {
-            let (target, weight) = node.edge(state[usize::from(node.variable)]);
-            sum += u32::from(weight);
-            next = target;
-        }
+    while next <= action.node_count {
+        let Some((_, node)) = nodes.find(|&(number, _)| number == next) else {
+            break;
+        };
+        let (target, weight) = node.edge(state[usize::from(node.variable)]);
+        passed += 1;
+        sum += u32::from(weight);
+        next = target;
     }
-    Ok(sum)
+    Ok((passed, sum))
 }
 
-/// The sum of a list of actions from the initial state to the goal.
-pub fn run_task(file: &[u8], list: &[u16]) -> Answer<u32> {
+/// The nodes that a list of actions passes from the initial state to the goal, and its sum.
+pub fn run_task(file: &[u8], list: &[u16]) -> Answer<(usize, u32)> {
     let task = Task::read(file)?;
-    run(&task.head, &task.actions, Task::LIST, list, |action, state| walk(action, task.nodes_of(action), state, |_| ()))
+    let mut passed = 0;
+    let sum = run(&task.head, &task.actions, Task::LIST, list, |action, state| {
+        walk(action, task.nodes_of(action), state, |_| passed += 1)
+    })?;
+    Ok((passed, sum))
 }
 
 /// The sum of a list of steps from the initial state to the goal.

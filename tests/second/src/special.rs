@@ -1,5 +1,5 @@
-//! Tasks and probe files that are made for one purpose: the document's own, the longest, those whose preconditions raise a relaxed cost, and those whose estimates
-//! are near the limit.
+//! Tasks and probe files that are made for one purpose: the document's own, the longest, those whose paths pass few or many nodes, those whose preconditions raise
+//! a relaxed cost, and those whose estimates are near the limit.
 
 use crate::model::{ActionModel, Facts, NodeModel, ProbeModel, StepModel, TaskModel};
 use crate::parts::{Probe, Task};
@@ -72,6 +72,31 @@ pub fn long_path(values: u8) -> TaskModel {
             nodes: (0..Task::VARIABLES).map(node).collect(),
             ..ActionModel::default()
         }],
+    }
+}
+
+/// Action 0 has 64 nodes in 24 layers, one layer a variable; the weights of a node are its number. By its variable's value a node leads to the first node of the
+/// next layer (0), to its second (1), past that layer (2) or to the terminal (3); nothing leads to a third. The other actions have no nodes: 1 to 4 set every
+/// variable to 0 to 3, and 5 sets the one in the middle to 3.
+pub fn layers() -> TaskModel {
+    let terminal = Task::NODES as u8 + 1;
+    // The first 16 layers have three nodes, the last 8 two.
+    let first = |layer: u8| (3 * layer + 1).min(2 * layer + 17).min(terminal);
+    let node = |layer, number: u8| {
+        let targets = [first(layer + 1), terminal.min(first(layer + 1) + 1), first(layer + 2), terminal];
+        NodeModel { variable: layer, edges: targets.map(|target| (target, number.into())).to_vec() }
+    };
+    let layer = |layer| (first(layer)..first(layer + 1)).map(move |number| node(layer, number));
+    let mut effects: Vec<Facts> = (0..4).map(|value| all(Task::VARIABLES, value)).collect();
+    effects.push(vec![(Task::VARIABLES / 2, 3)]);
+    let mut actions =
+        vec![ActionModel { nodes: (0..Task::VARIABLES).flat_map(layer).collect(), ..ActionModel::default() }];
+    actions.extend(effects.into_iter().map(|effect| ActionModel { effect, incoming: 7, ..ActionModel::default() }));
+    TaskModel {
+        sizes: vec![4; usize::from(Task::VARIABLES)],
+        initial: vec![0; usize::from(Task::VARIABLES)],
+        goal: Facts::new(),
+        actions,
     }
 }
 

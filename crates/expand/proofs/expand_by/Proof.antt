@@ -8,7 +8,7 @@ use lib.Seq.{length-take-le}
 use Rattle.facts.specs.Read.{accepted}
 use Rattle.facts.specs.Write.{Wrote}
 use Rattle.facts.specs.WriteLaws.{wrote-inside}
-use Rattle.taskfile.specs.TaskFile.{runTask}
+use Rattle.taskfile.specs.TaskFile.{sumTask}
 use Rattle.taskfile.specs.PartsInPlaceLaws.{reads}
 use Rattle.numbering.specs.InPlace.{expansion, WroteIf}
 use Rattle.numbering.specs.ExpandLaws.{expansion-few, expand-no-list, expand-plan, front-copied}
@@ -20,10 +20,10 @@ use Rattle.expand.proofs.expand_by.Tie as tie
 
 -- what an answer of the run says
 abbrev Told : (c : tie.After-put-plan) → Carried → Type 0
-Told c r = let a = c .before .before .before .before .before .before .before .args in WroteIf r (runTask (now (a .file)) (now (a .list))) (expansion (now (a .file)) (now (a .list))) (now (a .room)) (c .put-plan .last .1 .1 .1 .1 .1 .0)
+Told c r = let a = c .before .before .before .before .before .before .before .args in WroteIf r (sumTask (now (a .file)) (now (a .list))) (expansion (now (a .file)) (now (a .list))) (now (a .room)) (c .put-plan .last .1 .1 .1 .1 .1 .0)
 
 -- the list is a plan, and its probe list is written
-wrote : (c : tie.After-written) → let a = c .before .before .before .before .before .before .before .before .before .before .before .args in (accepted (c .written .given .0 .1 .0) ≡ runTask (now (a .file)) (now (a .list))) × Wrote (expansion (now (a .file)) (now (a .list))) (now (a .room)) (c .before .before .before .before .put-plan .last .1 .1 .1 .1 .1 .0) (c .written .given .0 .0)
+wrote : (c : tie.After-written) → let a = c .before .before .before .before .before .before .before .before .before .before .before .args in (accepted (c .written .given .0 .1 .0) ≡ sumTask (now (a .file)) (now (a .list))) × Wrote (expansion (now (a .file)) (now (a .list))) (now (a .room)) (c .before .before .before .before .put-plan .last .1 .1 .1 .1 .1 .0) (c .written .given .0 .0)
 wrote c = subst (Told (c .before .before .before .before)) (c .written .given .1) (c .before .before .before .before .put-plan .ensures)
 
 -- it is inside the buffer

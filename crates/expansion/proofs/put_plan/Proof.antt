@@ -8,7 +8,7 @@ use lib.ListN.{length, take, drop}
 use lib.Seq.{length-take-le}
 use Rattle.facts.specs.Partial.{partialAt}
 use Rattle.taskfile.specs.WalkInPlace.{moveAt, runList}
-use Rattle.taskfile.specs.AnswerLaws.{There, there, Starts, starts, run-is}
+use Rattle.taskfile.specs.AnswerLaws.{There, there, Starts, starts, sum-is}
 use Rattle.numbering.specs.NumberLaws.{rows-there, all-tested}
 use Rattle.numbering.specs.ExpandLaws.{init-inside, prepared, wrote-expansion}
 use borrow.Author.Needs.{needs}
@@ -46,7 +46,7 @@ returns c =
     let f = now (x .file) in
     let list = now (x .list) in
     let put = c .before .before .before .put-list in
-    let ran = ap (λ (state : List ℕ). runList (x .actions) (moveAt f (now (x .row))) (partialAt f (1 + 2 * x .variables)) list state) (c .before .before .before .before .before .before .before .before .initial .ensures .0) ∙ sym (run-is f (s .pre .0) list) in
+    let ran = ap (λ (state : List ℕ). runList (x .actions) (moveAt f (now (x .row))) (partialAt f (1 + 2 * x .variables)) list state) (c .before .before .before .before .before .before .before .before .initial .ensures .0) ∙ sym (sum-is f (s .pre .0) list) in
     wrote-expansion f (s .pre .0) list (now (x .out)) (put .last .1 .1 .1 .1 .1 .1 .1 .1 .1 .0) (put .result) (sizes-are s) (state-is (c .before .before .before .before .before .before .before .before)) ran (put .ensures)
 
 pub put-plan-spec : {M : Type 1} → statement M

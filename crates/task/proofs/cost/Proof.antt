@@ -3,7 +3,7 @@ use mathlib.Core.Path.{sym, ap, _∙_}
 use native.Mathlib.Omega.{arith}
 use Rattle.taskfile.specs.Answers.{countedAnswer}
 use Rattle.taskfile.specs.TaskIndexLaws.{index-ready, index-refused}
-use Rattle.taskfile.specs.Task.{cost}
+use Rattle.taskfile.specs.Task.{walk}
 use Rattle.taskfile.specs.AnswerLaws.{ask-refused}
 use Rattle.facts.specs.State.{checkState}
 use borrow.Author.Needs.{needs}
@@ -16,7 +16,7 @@ cost-in-requires c κs =
     index-ready _ (i .0) (i .1) (ap countedAnswer (c .before .before .variables .given .1)) (omega (arith, c .before .before .before .before .row2 .given))
 
 returns : tie.Need-returns
-returns c = sym (ask-refused checkState cost _ _ _ (index-refused _ (sym (c .before .before .before .before .index-in .ensures .0) ∙ ap countedAnswer (c .before .why .given .1))))
+returns c = sym (ask-refused checkState walk _ _ _ (index-refused _ (sym (c .before .before .before .before .index-in .ensures .0) ∙ ap countedAnswer (c .before .why .given .1))))
 
 pub cost-spec : {M : Type 1} → statement M
 cost-spec =

@@ -5,13 +5,13 @@ use mathlib.Core.List.{List, _++_}
 use denote.Ref.{now}
 use lib.ListN.{length, take, drop, replicate, length-take, length-drop, length-append}
 use lib.Seq.{length-take-le, take-at}
+use Rattle.facts.specs.Read.{Read}
+use Rattle.facts.specs.Run.{Move}
 use Rattle.facts.specs.WriteLaws.{copied}
 use Rattle.facts.specs.Partial.{partialAt}
-use Rattle.taskfile.specs.Task.{maxVariables}
-use Rattle.taskfile.specs.TaskFile.{runTask}
-use Rattle.taskfile.specs.WalkInPlace.{moveAt, runList}
-use Rattle.taskfile.specs.Answers.{sumAnswer}
-use Rattle.taskfile.specs.AnswerLaws.{Starts, starts, run-is}
+use Rattle.taskfile.specs.Task.{both, maxVariables}
+use Rattle.taskfile.specs.WalkInPlace.{moveAt, passesAt, runList}
+use Rattle.taskfile.specs.AnswerLaws.{Starts, starts, tallied-both, run-is}
 use borrow.Author.Needs.{needs}
 use native.Mathlib.Omega.{arith}
 use Rattle.task.proofs.run_in.Statement.{statement}
@@ -55,15 +55,19 @@ array-borrow-prefix-state-2 c = let s = c .before .before .before .before .befor
 slice-aggregate-run-list : tie.Need-slice-aggregate-run-list
 slice-aggregate-run-list c = sym (ap length (state-is (c .before .before)) ∙ init-long (c .before .before .before .before .before .before .before .before))
 
--- the sum is that of the task
-ran : (c : tie.After-run-list) → sumAnswer (c .run-list .result) ≡ runTask (now (c .before .before .before .before .before .before .before .before .before .args .file)) (now (c .before .before .before .before .before .before .before .before .before .args .list))
-ran c =
-    let s = c .before .before .before .before .before .before .before .before .before in
+-- sum and nodes passed are those of the task
+returns : tie.Need-returns
+returns c =
+    let r = c .before .run-list in
+    let s = c .before .before .before .before .before .before .before .before .before .before in
     let a = s .args in
+    let f = now (a .file) in
     let goal : 1 + a .variables + a .variables ≡ 1 + 2 * a .variables = omega arith in
-    c .run-list .ensures .0
-    ∙ ap₂ (λ (at : ℕ) (state : List ℕ). runList (a .actions) (moveAt (now (a .file)) (now (a .row))) (partialAt (now (a .file)) at) (now (a .list)) state) goal (state-is (c .before .before .before) ∙ init-is s)
-    ∙ sym (run-is (now (a .file)) (s .pre) (now (a .list)))
+    let run : (ℕ → List ℕ → Move) → ℕ → List ℕ → Read ℕ = λ move at state. runList (a .actions) move (partialAt f at) (now (a .list)) state in
+    tallied-both (r .result)
+    ∙ ap₂ both (r .ensures .0) (r .ensures .1)
+    ∙ ap₂ (λ (at : ℕ) (state : List ℕ). both (run (moveAt f (now (a .row))) at state) (run (passesAt f (now (a .row))) at state)) goal (state-is (c .before .before .before .before) ∙ init-is s)
+    ∙ sym (run-is f (s .pre) (now (a .list)))
 
 pub run-in-spec : {M : Type 1} → statement M
 run-in-spec =
@@ -80,7 +84,4 @@ run-in-spec =
     array-borrow-prefix-state-2
     slice-aggregate-run-list
     (λ c κs. search needs)
-    (λ c. search needs)
-    (λ c. search needs)
-    (λ c. sym (ap sumAnswer (c .before .why .given .1)) ∙ ran (c .before .before .before .before))
-    (λ c. sym (ap sumAnswer (c .before .sum .given .1)) ∙ ran (c .before .before .before .before)))
+    returns)

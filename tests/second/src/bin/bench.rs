@@ -221,7 +221,7 @@ fn growth() {
         let mut steps = vec![0; Probe::LIST];
         let expanded = Call::on(Operation::Expand, &file).list(&list);
         let answer = call::second(&expanded, &mut [], &mut steps);
-        steps.truncate(call::length(answer));
+        steps.truncate(call::middle(answer));
         row(&Call::on(Operation::RunTask, &file).list(&list), &name);
         row(&expanded, &name);
         row(&Call::on(Operation::Contract, &file).list(&steps), &name);

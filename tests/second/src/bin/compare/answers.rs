@@ -1,6 +1,6 @@
-//! How often each operation gave each answer, and how often relaxed costs were asked for in each situation; none may be missing.
+//! How often each operation gave each answer, and how often each situation was met; none may be missing.
 
-use second::call::{length, number, Operation};
+use second::call::{middle, number, Operation};
 
 /// The operations, in the order of their numbers, and the answers that each has.
 const OPERATIONS: [(Operation, &str); 11] = [
@@ -23,6 +23,7 @@ const REFUSED: [u8; 13] = [1, 2, 3, 4, 5, 6, 7, 8, 9, 10, 11, 12, 17];
 const COLUMNS: usize = ACCEPTED.len() + REFUSED.len();
 
 /// The situations in which relaxed costs are asked for: what precondition and nodes there are, and whether the sets have the precondition's values or lack some.
+/// Then those in which nodes are passed: how many, and which, on the path of one action; how many in a run.
 #[derive(Clone, Copy)]
 pub enum Situation {
     NoPrecondition,
@@ -35,10 +36,21 @@ pub enum Situation {
     SeveralLacking,
     LackingNoNodes,
     LackingAndWrong,
+    NoNodesToPass,
+    AllPassed,
+    ReachedSkipped,
+    UnreachedSkipped,
+    OneOfMost,
+    MostOfMost,
+    EmptyRun,
+    NoNodesInRun,
+    AllPassedInRun,
+    FewerPassedInRun,
+    MostInRun,
 }
 
 /// The situations in words, in their order.
-const SITUATIONS: [&str; 10] = [
+const RELAXED: [&str; 10] = [
     "an empty precondition",
     "a precondition, and no nodes",
     "no precondition variable tested",
@@ -50,12 +62,26 @@ const SITUATIONS: [&str; 10] = [
     "a value lacking, and no nodes",
     "a value lacking, and a wrong set above it",
 ];
+const PASSED: [&str; 11] = [
+    "an action without nodes",
+    "all nodes of an action",
+    "a node skipped that another path passes",
+    "a node skipped that nothing reaches",
+    "1 of 64 nodes",
+    "24 of 64 nodes",
+    "an empty run",
+    "a run of actions without nodes",
+    "a run: all nodes of its diagrams",
+    "a run: fewer nodes than its diagrams have",
+    "a run: 6,144 nodes",
+];
+const SITUATIONS: [(&str, &[&str]); 2] = [("relaxed costs", &RELAXED), ("nodes passed", &PASSED)];
 
 /// The counts.
 #[derive(Default)]
 pub struct Answers {
     given: [[usize; COLUMNS]; OPERATIONS.len()],
-    met: [usize; SITUATIONS.len()],
+    met: [usize; RELAXED.len() + PASSED.len()],
 }
 
 impl Answers {
@@ -77,9 +103,12 @@ impl Answers {
             let row = row.map(|count| format!("{count:>8}")).concat();
             println!("{:<16}{row}", format!("{operation:?}"));
         }
-        println!("\n{:<48}    times", "relaxed costs");
-        for (situation, count) in SITUATIONS.iter().zip(self.met) {
-            println!("{situation:<48}{count:>9}");
+        let mut counts = self.met.iter();
+        for (title, situations) in SITUATIONS {
+            println!("\n{title:<48}    times");
+            for (situation, count) in situations.iter().zip(counts.by_ref()) {
+                println!("{situation:<48}{count:>9}");
+            }
         }
     }
 
@@ -90,8 +119,11 @@ impl Answers {
             let absent = names().zip(row).filter(|(name, &count)| count == 0 && has.split(' ').any(|has| has == name));
             missing.extend(absent.map(|(name, _)| format!("{operation:?}: {name}")));
         }
-        let unmet = SITUATIONS.iter().zip(self.met).filter(|&(_, count)| count == 0);
-        missing.extend(unmet.map(|(situation, _)| format!("relaxed costs: {situation}")));
+        let titled = |(title, situations): (&'static str, &'static [&str])| {
+            situations.iter().map(move |situation| format!("{title}: {situation}"))
+        };
+        let unmet = SITUATIONS.into_iter().flat_map(titled).zip(self.met).filter(|&(_, count)| count == 0);
+        missing.extend(unmet.map(|(situation, _)| situation));
         missing
     }
 }
@@ -104,7 +136,7 @@ fn names() -> impl Iterator<Item = String> {
 /// The column of an answer.
 fn column(operation: Operation, answer: u64) -> usize {
     match (number(answer), operation) {
-        (0, Operation::EstimateTask | Operation::EstimateProbe) => length(answer),
+        (0, Operation::EstimateTask | Operation::EstimateProbe) => middle(answer),
         (0, _) => 0,
         (number, _) => {
             let place = REFUSED.iter().position(|&refused| refused == number);

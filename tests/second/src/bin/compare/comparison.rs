@@ -2,7 +2,8 @@
 
 use crate::answers::{Answers, Situation};
 use crate::defined::Known;
-use second::call::{self, hex, in_words, length, low, number, Call, Operation};
+use crate::passed;
+use second::call::{self, hex, in_words, low, middle, number, Call, Operation};
 use second::Reason;
 use std::process;
 
@@ -91,7 +92,7 @@ impl Buffers {
 impl Outcome {
     /// The result at the front of the buffers, as long as the answer says.
     fn written(&self, call: &Call) -> Written {
-        let length = if number(self.answer) == 0 { length(self.answer) } else { 0 };
+        let length = if number(self.answer) == 0 { middle(self.answer) } else { 0 };
         let (bytes, entries) = lengths(call.operation, length);
         Written {
             answer: self.answer,
@@ -148,6 +149,11 @@ impl Comparison {
             self.count().definition += 1;
             self.same("the definition", call, &outcome, &before.holding(&defined));
         }
+        if let (0, Some(task)) = (number(outcome.answer), self.known.task()) {
+            for situation in passed::situations(call, task, middle(outcome.answer)) {
+                self.answers.met(situation);
+            }
+        }
         written
     }
 
@@ -163,7 +169,7 @@ impl Comparison {
         let short = self.with_room(call, needed - 1);
         self.law("less room, same answer", call, first.answer, short.answer);
         let exact = self.with_room(call, needed);
-        self.law("as long as needed", call, needed as u64, length(exact.answer) as u64);
+        self.law("as long as needed", call, needed as u64, middle(exact.answer) as u64);
         for more in [1, 7, 300] {
             let longer = self.with_room(call, needed + more);
             self.law("more room, same answer", call, exact.answer, longer.answer);
@@ -180,7 +186,7 @@ impl Comparison {
         }
     }
 
-    /// Notes the situation in which a relaxed cost was asked for.
+    /// Notes a situation that was met.
     pub fn met(&mut self, situation: Situation) {
         self.answers.met(situation);
     }
@@ -225,12 +231,12 @@ impl Comparison {
         println!("comparisons: {}", all[1..].iter().sum::<usize>());
     }
 
-    /// Prints how often each operation gave each kind of answer, and in which situations relaxed costs were asked for.
+    /// Prints how often each operation gave each kind of answer, and how often each situation was met.
     pub fn print_answers(&self) {
         self.answers.print();
     }
 
-    /// Ends the run with a report if an answer was never given, or a relaxed cost never asked for in some situation.
+    /// Ends the run with a report if an answer was never given, or a situation never met.
     pub fn nothing_missing(&self) {
         let missing = self.answers.missing();
         if !missing.is_empty() {

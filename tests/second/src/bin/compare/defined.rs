@@ -33,15 +33,19 @@ impl Known {
         };
         answer.map(|answer| in_room(answer, room))
     }
+
+    /// The task of the file that was used last, if it is one.
+    pub fn task(&self) -> Option<&TaskModel> {
+        self.task.as_ref()
+    }
 }
 
 /// The answer to a call on a task, or none where it would take too long.
 fn on_task(call: &Call, task: &TaskModel) -> Option<Answer<Written>> {
     Some(match call.operation {
-        Operation::Cost => right_action(call, task).map(|action| {
-            let cost = task.actions[action].cost(call.state).0;
-            number((0, cost))
-        }),
+        Operation::Cost => {
+            right_action(call, task).map(|action| number(definition::cost(&task.actions[action], call.state)))
+        }
         Operation::RelaxedCost => match right_sets(call, task) {
             Ok(action) => Ok(number((0, definition::relaxed_cost(task, action, call.state)?))),
             Err(refusal) => Err(refusal),
@@ -50,7 +54,7 @@ fn on_task(call: &Call, task: &TaskModel) -> Option<Answer<Written>> {
             Ok(()) => Ok(number(estimate(definition::estimate_task(task, call.state)?))),
             Err(refusal) => Err(refusal),
         },
-        Operation::RunTask => definition::run_task(task, call.list).map(|sum| number((0, sum))),
+        Operation::RunTask => definition::run_task(task, call.list).map(number),
         Operation::Compile => Ok(file(definition::compile(task).bytes())),
         Operation::Expand => definition::expand(task, call.list).map(list),
         _ => definition::contract(task, call.list).map(list),

@@ -1,9 +1,10 @@
-//! Document 01's cases by name, marked or not, with the answers written out; those of document 02's W5; and the cases in which two refusals could both apply.
+//! Document 01's cases by name, marked or not, with the answers written out; those of document 02's W5 and W7; and the cases in which two refusals could both
+//! apply.
 
 use crate::comparison::{Comparison, Written};
 use second::call::{refused, Call, Operation};
 use second::model::{ActionModel, NodeModel, TaskModel};
-use second::special::{long_path, narrowed_path};
+use second::special::{layers, long_path, narrowed_path};
 
 /// Task P, as the document prints it.
 const P: &str = "01 02 00 | 01 0* 01 | 01 | 00 0* | 01 0* 01 | 03 00 | 01 | 00 02 05 00 02 00 00";
@@ -52,9 +53,14 @@ fn never() -> Written {
     packed(2 << 32)
 }
 
+/// The answer that is this cost or sum, with the nodes passed, or with a length.
+fn counted(count: usize, sum: u32) -> Written {
+    packed((count as u64) << 32 | u64::from(sum))
+}
+
 /// The answer that a list was written, with its sum.
 fn list(entries: &[u16], sum: u32) -> Written {
-    Written { entries: entries.to_vec(), ..packed((entries.len() as u64) << 32 | u64::from(sum)) }
+    Written { entries: entries.to_vec(), ..counted(entries.len(), sum) }
 }
 
 /// The answer that a file was written.
@@ -74,6 +80,7 @@ pub fn cases(comparison: &mut Comparison) {
     table_of_states(comparison);
     known_plans(comparison);
     known_costs(comparison);
+    nodes_passed(comparison);
     costs_with_precondition(comparison);
     lacking_values(comparison);
     long_precondition(comparison);
@@ -150,7 +157,7 @@ fn known_plans(comparison: &mut Comparison) {
     comparison.document("P compiles to 106 bytes", &compile, 106, file(probe.clone()));
     comparison.document("P, with room to spare", &compile, 200, file(probe.clone()));
     let run = Call::on(Operation::RunTask, &p);
-    comparison.document("P, list 0: sum 8", &run.list(&[0]), 0, sum(8));
+    comparison.document("P, list 0: sum 8, and 1 node", &run.list(&[0]), 0, counted(1, 8));
     let expand = Call::on(Operation::Expand, &p);
     comparison.document("list 0 expands", &expand.list(&[0]), 3, list(&[0, 1, 3], 8));
     let run = Call::on(Operation::RunProbe, &probe);
@@ -190,13 +197,43 @@ fn x_y_z(precondition: &[(u8, u8)]) -> TaskModel {
 fn known_costs(comparison: &mut Comparison) {
     let file = x_y_z(&[]).bytes();
     let cost = Call::on(Operation::Cost, &file);
-    comparison.document("(1,2,0) costs 6", &cost.state(&[1, 2, 0]), 0, sum(6));
-    comparison.document("(0,2,1) costs 3", &cost.state(&[0, 2, 1]), 0, sum(3));
+    comparison.document("(1,2,0) costs 6, and 3 nodes", &cost.state(&[1, 2, 0]), 0, counted(3, 6));
+    comparison.document("(0,2,1) costs 3, and 2 nodes", &cost.state(&[0, 2, 1]), 0, counted(2, 3));
     let relaxed = Call::on(Operation::RelaxedCost, &file);
     let sets = [0b11, 0b110, 0b01];
     comparison.document("relaxed {0,1},{1,2},{0}: 2", &relaxed.state(&sets), 0, sum(2));
     let sets = [0b10, 0b110, 0b11];
     comparison.document("relaxed {1},{1,2},{0,1}: 3", &relaxed.state(&sets), 0, sum(3));
+}
+
+/// The nodes passed of 64 in 24 layers, with the sum of their numbers; by actions without nodes; in runs. Nothing else carries them.
+fn nodes_passed(comparison: &mut Comparison) {
+    let file = layers().bytes();
+    let cost = Call::on(Operation::Cost, &file);
+    let costs = [
+        ("the first node of each layer", [0; 24], 24, 824),
+        ("node 1 and the second node of each other layer", [1; 24], 24, 847),
+        ("every other layer skipped", [2; 24], 12, 396),
+        ("1 of 64 nodes", [3; 24], 1, 1),
+    ];
+    let relaxed = Call::on(Operation::RelaxedCost, &file);
+    for (name, state, nodes, numbers) in costs {
+        comparison.document(name, &cost.state(&state), 0, counted(nodes, numbers));
+        comparison.document("no nodes", &cost.action(1).state(&state), 0, counted(0, 7));
+        let single = state.map(|value| 1 << value);
+        comparison.document("relaxed, no nodes told", &relaxed.state(&single), 0, sum(numbers));
+    }
+    let run = Call::on(Operation::RunTask, &file);
+    let runs: [(_, &[u16], _, _); 5] = [
+        ("an empty list", &[], 0, 0),
+        ("actions without nodes", &[1, 4, 3], 0, 21),
+        ("nodes after an action without", &[4, 0], 1, 8),
+        ("an action without after nodes", &[0, 4], 24, 831),
+        ("24, 1, 12, 24 and 13 nodes", &[0, 4, 0, 3, 0, 2, 0, 1, 5, 0], 74, 824 + 1 + 396 + 847 + 247 + 35),
+    ];
+    for (name, list, nodes, numbers) in runs {
+        comparison.document(name, &run.list(list), 0, counted(nodes, numbers));
+    }
 }
 
 /// The file of a task where x=1 and z=1 are needed for an action that costs xy²+z+2, and for one without nodes that costs 9.
@@ -221,7 +258,7 @@ fn costs_with_precondition(comparison: &mut Comparison) {
         comparison.document("no nodes: 9", &relaxed.action(1).state(&sets), 0, sum(9));
     }
     let cost = Call::on(Operation::Cost, &file).state(&[0, 2, 0]);
-    comparison.document("needs x=1, z=1; (0,2,0) costs 2", &cost, 0, sum(2));
+    comparison.document("needs x=1, z=1; (0,2,0) costs 2, and 2 nodes", &cost, 0, counted(2, 2));
 }
 
 /// Sets that lack values of the precondition x=1, z=1 (17), and what comes before that.
@@ -374,7 +411,7 @@ fn lists_at_limits(comparison: &mut Comparison) {
     let repeats = |count: usize| [vec![0, 1, 3], [0, 2, 3].repeat(count - 1)].concat();
     let cheap = |count: u32| 8 + 3 * (count - 1);
     let run = Call::on(Operation::RunTask, &p);
-    comparison.document("256 actions", &run.list(&[0; 256]), 0, sum(cheap(256)));
+    comparison.document("256 actions", &run.list(&[0; 256]), 0, counted(256, cheap(256)));
     let expand = Call::on(Operation::Expand, &p);
     comparison.document("256 expanded", &expand.list(&[0; 256]), 768, list(&repeats(256), cheap(256)));
     comparison.document("257 expanded", &expand.list(&[0; 257]), 999, refusal(8, 256));
@@ -391,7 +428,9 @@ fn lists_at_limits(comparison: &mut Comparison) {
     let path = long_path(8).bytes();
     let expand = Call::on(Operation::Expand, &path).list(&[0; 256]);
     let call = Call::on(Operation::Cost, &path);
-    comparison.document("the greatest cost", &call.state(&[0; 24]), 0, sum(1_638_375));
+    comparison.document("the greatest cost", &call.state(&[0; 24]), 0, counted(24, 1_638_375));
+    let run = Call::on(Operation::RunTask, &path).list(&[0; 256]);
+    comparison.document("6,144 nodes, for 6,656 steps", &run, 0, counted(6_144, 419_424_000));
     comparison.document("6,656 steps needed", &expand, 6_655, refusal(7, 6_656));
     let steps = comparison.with_room(&expand, 6_656).entries;
     let contract = Call::on(Operation::Contract, &path).list(&steps);

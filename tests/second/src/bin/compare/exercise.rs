@@ -1,10 +1,13 @@
 //! What is asked of one task and of one probe file: every operation, with right and wrong lists, states and buffers.
 
-use crate::comparison::Comparison;
+use crate::comparison::{Comparison, Written};
 use crate::relaxed::Relaxed;
-use second::call::{low, number, refused, Call, Operation};
+use second::call::{low, middle, number, packed, refused, Call, Operation};
 use second::generate::{damaged_file, damaged_list, Random};
-use second::model::{ProbeModel, TaskModel};
+use second::model::{Facts, ProbeModel, TaskModel};
+
+/// The most steps that an action expands to.
+const MOST_STEPS: usize = 26;
 
 /// Asks every operation about a task, for a list of actions that may be a plan.
 pub fn task(comparison: &mut Comparison, random: &mut Random, task: &TaskModel, list: &[u16]) {
@@ -39,17 +42,11 @@ pub fn check(comparison: &mut Comparison, operation: Operation, file: &[u8]) -> 
 
 /// Runs a list of actions, expands it, runs and contracts the expansion: the sums are the same, and the list comes back.
 pub fn plan(comparison: &mut Comparison, random: &mut Random, file: &[u8], probe: &[u8], list: &[u16]) {
-    let run = Call::on(Operation::RunTask, file).list(list);
-    let sum = comparison.answer(&run);
-    let expand = Call::on(Operation::Expand, file).list(list);
-    let expanded = comparison.every_room(&expand);
-    if number(sum) != 0 {
-        comparison.law("expanding refuses what a run does", &expand, sum, expanded.answer);
+    let Some(expanded) = expansion(comparison, file, list) else {
         return;
-    }
-    let sum = u64::from(low(sum));
+    };
+    let sum = u64::from(low(expanded.answer));
     let steps = &expanded.entries;
-    comparison.law("expanding gives the sum", &expand, sum, low(expanded.answer).into());
     let run = Call::on(Operation::RunProbe, probe).list(steps);
     let answer = comparison.answer(&run);
     comparison.law("the expansion is a plan of the same sum", &run, sum, answer);
@@ -59,6 +56,23 @@ pub fn plan(comparison: &mut Comparison, random: &mut Random, file: &[u8], probe
     let back = u64::from(contracted.entries == list);
     comparison.law("contracting an expansion gives the plan", &contract, 1, back);
     probe_lists(comparison, random, file, probe, steps);
+}
+
+/// Runs a list of actions and expands it: refused alike, or of the same sum and as long as the actions and the nodes passed say.
+pub fn expansion(comparison: &mut Comparison, file: &[u8], list: &[u16]) -> Option<Written> {
+    let run = comparison.answer(&Call::on(Operation::RunTask, file).list(list));
+    let expand = Call::on(Operation::Expand, file).list(list);
+    let expanded = comparison.every_room(&expand);
+    if number(run) != 0 {
+        comparison.law("expanding refuses what a run does", &expand, run, expanded.answer);
+        return None;
+    }
+    let steps = 2 * list.len() + middle(run);
+    let wanted = packed(Ok((steps, low(run))));
+    comparison.law("expanding gives the sum, and two steps an action and one a node", &expand, wanted, expanded.answer);
+    let most = MOST_STEPS * list.len();
+    comparison.law("at most 26 steps an action", &expand, steps as u64, steps.min(most) as u64);
+    Some(expanded)
 }
 
 /// Contracts damaged probe lists: refused as a run on the compiled file refuses them, else the sum is the same.
@@ -86,6 +100,7 @@ fn costs(comparison: &mut Comparison, random: &mut Random, task: &TaskModel, fil
         let state = random.state(&task.sizes);
         let sets = random.sets_with(&state, &task.sizes);
         let cost = Call::on(Operation::Cost, file).state(&state);
+        alone(comparison, task, cost.action(action as u64));
         let relaxed = Call::on(Operation::RelaxedCost, file).state(&sets);
         for call in [cost, relaxed].map(|call| call.action(action as u64)) {
             comparison.answer(&call);
@@ -95,6 +110,17 @@ fn costs(comparison: &mut Comparison, random: &mut Random, task: &TaskModel, fil
             comparison.answer(&call.action(missing).state(&[]));
         }
     }
+}
+
+/// Asks for a cost, and for the run of the action alone in that state, with no precondition and no goal: cost and nodes are the same.
+fn alone(comparison: &mut Comparison, task: &TaskModel, cost: Call) {
+    let mut free = TaskModel { initial: cost.state.to_vec(), goal: Facts::new(), ..task.clone() };
+    free.actions[cost.action as usize].precondition.clear();
+    let (file, list) = (free.bytes(), [cost.action as u16]);
+    let run = Call::on(Operation::RunTask, &file).list(&list);
+    let wanted = comparison.answer(&cost);
+    let answer = comparison.answer(&run);
+    comparison.law("alone in a run, the same cost and nodes", &run, wanted, answer);
 }
 
 /// Asks with one thing wrong in a state: its length, a value, a set that is empty or has a stray bit.

@@ -3,7 +3,7 @@
 use crate::comparison::Comparison;
 use crate::exercise;
 use crate::relaxed::Relaxed;
-use second::call::{Call, Operation};
+use second::call::{middle, Call, Operation};
 use second::generate::{self, goal_in, walk, Random, Shape};
 use second::model::{ActionModel, Facts, NodeModel, StepModel, TaskModel};
 use second::parts::{Probe, Task};
@@ -67,20 +67,63 @@ pub fn limits(comparison: &mut Comparison) {
     }
 }
 
-/// Relaxed costs: with every relaxed state of tiny tasks, and of long diagrams with none, some or all of 24 variables in the precondition.
-pub fn relaxed_costs(comparison: &mut Comparison) {
-    comparison.kind("every relaxed state of tiny tasks");
+/// Costs in every state of tiny tasks and relaxed costs in every relaxed state, from the empty set on; the value or the set after the last is wrong.
+pub fn tiny_tasks(comparison: &mut Comparison) {
+    comparison.kind("every state and relaxed state of tiny tasks");
     for seed in 0..100 {
         comparison.seed(seed);
         let task = generate::task(&mut Random::new(seed), generate::TINY);
         let file = task.bytes();
+        let stray = task.sizes.iter().map(|size| 1 << size).collect();
         for action in 0..task.actions.len() as u64 {
-            let call = Call::on(Operation::RelaxedCost, &file).action(action);
-            every_relaxed_state(&task.sizes, |sets| {
-                comparison.answer(&call.state(sets));
-            });
+            for (operation, last) in [(Operation::Cost, &task.sizes), (Operation::RelaxedCost, &stray)] {
+                let call = Call::on(operation, &file).action(action);
+                every_choice(last, |state| {
+                    comparison.answer(&call.state(state));
+                });
+            }
         }
     }
+}
+
+/// Calls `visit` with each choice of a byte for each variable, from 0 to its last.
+fn every_choice(last: &[u8], mut visit: impl FnMut(&[u8])) {
+    let mut bytes = vec![0; last.len()];
+    while let Some(next) = (0..last.len()).find(|&variable| bytes[variable] < last[variable]) {
+        visit(&bytes);
+        bytes[next] += 1;
+        bytes[..next].fill(0);
+    }
+    visit(&bytes);
+}
+
+/// 64 nodes in layers, of which paths pass 1 to 24, skipping some and coming by others that nothing reaches; runs whose actions pass many, few or none.
+pub fn layers(comparison: &mut Comparison) {
+    comparison.kind("64 nodes, of which 1 to 24 are passed");
+    let task = special::layers();
+    let file = task.bytes();
+    for last in 0..task.sizes.len() {
+        let mut state = task.initial.clone();
+        state[last] = 3;
+        let call = Call::on(Operation::Cost, &file).state(&state);
+        let answer = comparison.answer(&call);
+        comparison.law("a node a layer passed", &call, last as u64 + 1, middle(answer) as u64);
+    }
+    exercise::task(comparison, &mut Random::new(0), &task, &[0; Task::LIST]);
+    for seed in 0..60 {
+        comparison.seed(seed);
+        let random = &mut Random::new(seed);
+        let most = random.below(Task::LIST + 1);
+        let (list, _) = walk(random, &task.initial, &task.operators(), most);
+        exercise::task(comparison, random, &task, &list);
+        for _ in 0..20 {
+            exercise::damage(comparison, random, Operation::CheckTask, &file);
+        }
+    }
+}
+
+/// Relaxed costs of long diagrams, with none, some or all of 24 variables in the precondition.
+pub fn relaxed_costs(comparison: &mut Comparison) {
     comparison.kind("relaxed costs of long diagrams");
     for seed in 0..200 {
         comparison.seed(seed);
@@ -95,17 +138,6 @@ pub fn relaxed_costs(comparison: &mut Comparison) {
     for facts in 0..=Task::VARIABLES {
         relaxed_costs_of(comparison, &mut Random::new(facts.into()), &special::narrowed_path(facts));
     }
-}
-
-/// Calls `visit` with each choice of a byte for each variable, from the empty set to one with a stray bit.
-fn every_relaxed_state(sizes: &[u8], mut visit: impl FnMut(&[u8])) {
-    let mut sets = vec![0; sizes.len()];
-    while let Some(next) = (0..sizes.len()).find(|&variable| sets[variable] < 1 << sizes[variable]) {
-        visit(&sets);
-        sets[next] += 1;
-        sets[..next].fill(0);
-    }
-    visit(&sets);
 }
 
 /// Asks for relaxed costs of each action of a task.
@@ -245,6 +277,8 @@ pub fn damaged_files(comparison: &mut Comparison) {
     every_damage(&three_nodes().bytes(), |damaged| {
         exercise::check(comparison, Operation::CheckTask, damaged);
         comparison.with_room(&Call::on(Operation::Compile, damaged), 1_000);
+        comparison.answer(&Call::on(Operation::Cost, damaged).state(&[0, 2]));
+        exercise::expansion(comparison, damaged, &[0, 1]);
         // The set of variable 0 lacks the precondition's value.
         comparison.answer(&Call::on(Operation::RelaxedCost, damaged).state(&[0b10, 0b111]));
     });
@@ -292,9 +326,8 @@ fn on_task(comparison: &mut Comparison, file: &[u8]) {
     for operation in [Operation::Cost, Operation::RelaxedCost, Operation::EstimateTask] {
         comparison.answer(&Call::on(operation, file).state(&[1]));
     }
-    comparison.answer(&Call::on(Operation::RunTask, file).list(&[0]));
+    exercise::expansion(comparison, file, &[0]);
     comparison.with_room(&Call::on(Operation::Compile, file), 110);
-    comparison.with_room(&Call::on(Operation::Expand, file).list(&[0]), 4);
     comparison.with_room(&Call::on(Operation::Contract, file).list(&[0, 1, 3]), 2);
 }
 

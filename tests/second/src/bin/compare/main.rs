@@ -1,5 +1,5 @@
 //! Compares the second implementation with the library (feature `library`), with the document's definitions and laws, and with its written-out cases.
-//! The first difference is reported with its seed and input and ends the run with exit code 1, and so does an answer that was never given.
+//! The first difference is reported with its seed and input and ends the run with exit code 1, and so does an answer never given or a situation never met.
 
 mod answers;
 mod comparison;
@@ -7,6 +7,7 @@ mod defined;
 mod document;
 mod exercise;
 mod kinds;
+mod passed;
 mod relaxed;
 
 use comparison::Comparison;
@@ -19,6 +20,8 @@ fn main() {
     document::cases(&mut comparison);
     kinds::tasks(&mut comparison);
     kinds::limits(&mut comparison);
+    kinds::tiny_tasks(&mut comparison);
+    kinds::layers(&mut comparison);
     kinds::relaxed_costs(&mut comparison);
     kinds::estimates(&mut comparison);
     kinds::probes(&mut comparison);

@@ -2,7 +2,7 @@
 
 use crate::answers::Situation;
 use crate::comparison::Comparison;
-use second::call::{refused, Call, Operation};
+use second::call::{low, refused, Call, Operation};
 use second::generate::Random;
 use second::model::{holds, set, ActionModel, Facts, TaskModel};
 use second::parts::Task;
@@ -54,7 +54,7 @@ impl<'a> Relaxed<'a> {
 
     /// Asks with the values of one state: its cost there, or 17 where a fact of the precondition does not hold.
     fn one_state(&self, comparison: &mut Comparison, state: &[u8]) -> u64 {
-        let cost = comparison.answer(&Call { operation: Operation::Cost, ..self.call(state) });
+        let cost = low(comparison.answer(&Call { operation: Operation::Cost, ..self.call(state) })).into();
         let single: Vec<u8> = state.iter().map(|value| 1 << value).collect();
         let call = self.call(&single);
         let fails = |&&fact: &&(u8, u8)| !holds(&[fact], state);
