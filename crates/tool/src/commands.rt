@@ -20,6 +20,7 @@ use console::output::within16;
 use estimate::Estimated;
 use facts::Checked;
 use facts::Ran;
+use measure::Measured;
 use probefile::Probe;
 use report::Subject;
 use taskfile::Costed;
@@ -134,11 +135,11 @@ pub fn on_state(question: Question, file: &[u8], next: usize, asked: Asked) {
     }
 }
 
-// The sum of a plan, the nodes that its actions pass, and the steps of its probe list: two for each action, and one for each node.
+// The sum of a plan, the nodes that its actions pass, and the steps of its probe list.
 fn run(file: &[u8], list: &[u16], asked: Asked) {
-    match task::run(file, list) {
-        Tallied::Sum(sum, passed) => ran(sum, passed, 2 * list.len() + passed),
-        Tallied::Refused(why) => refuse(asked, Subject::List, why),
+    match measure::measure(file, list) {
+        Measured::Plan(sum, passed, steps) => ran(sum, passed, steps),
+        Measured::Refused(why) => refuse(asked, Subject::List, why),
     }
 }
 
