@@ -3,6 +3,7 @@
  *
  * A file is bytes; a state has one byte for each variable; a relaxed state too, with bit d for value d; a list is a row of numbers, one an action or a
  * step. Nothing is kept between calls, so that threads may call at the same time. Only the output buffers are written, and by a refusal not even these.
+ * A task file of zero bytes is the blank task: one variable of 2 values at 0, an empty goal, no actions. An empty probe file is refused.
  * Slices of one call must not overlap: the proofs are about memory that no two of them share. An empty slice may come with any pointer.
  *
  * The result of every function:

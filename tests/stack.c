@@ -79,8 +79,11 @@ static size_t used(void (*call)(void))
 static void measure(void)
 {
     size_t none = used(nothing);
-    variables = task[0];
-    memcpy(state, task + 1 + variables, variables);
+    /* an empty file is the blank task, of one variable at 0 */
+    variables = task_len ? task[0] : 1;
+    memset(state, 0, sizeof state);
+    if (task_len)
+        memcpy(state, task + 1 + variables, variables);
     for (size_t v = 0; v < variables; v++)
         sets[v] = (uint8_t)(1 << state[v]);
     probe_len = JAFRELIN_LENGTH(jafrelin_compile(task, task_len, probe, sizeof probe));

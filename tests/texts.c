@@ -1,4 +1,4 @@
-/* The texts of a task file: in words, all of its cost diagrams, that of action 0, and the trace of the list 0 1 2; each in a buffer that is just long enough, after one that is too short. */
+/* The texts of a task file: in words, all of its cost diagrams, that of action 0, and the trace of the list 0 1 2, the last two where there are actions; each in a buffer that is just long enough, after one that is too short. */
 #include <jafrelin.h>
 #include <stdio.h>
 #include <string.h>
@@ -32,5 +32,8 @@ int main(int argc, char **argv)
         return 2;
     task_len = fread(task, 1, sizeof task, in);
     fclose(in);
-    return put(show) || put(draw) || put(draw_action) || put(trace);
+    /* the blank task may come with any pointer */
+    if (!task_len && jafrelin_show(NULL, 0, text, sizeof text) != show(sizeof text))
+        return 1;
+    return put(show) || put(draw) || (task_len && (put(draw_action) || put(trace)));
 }

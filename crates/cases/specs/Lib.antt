@@ -18,6 +18,7 @@ pub mod PlaceLaws
 pub mod Ranges
 -- The table: read this first.
 pub mod Table
--- The document's cases, computed: the marked ones, and the table's examples.
+-- The documents' cases, computed: the marked ones, the table's examples, and the blank task.
 pub mod Marked
 pub mod TableExamples
+pub mod Blank

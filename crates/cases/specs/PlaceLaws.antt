@@ -15,7 +15,7 @@ use Rattle.facts.specs.Bytes.{numberAt}
 use Rattle.facts.specs.Fields.{standing, each, field, readCount, readValue, readMap, readWeight, readValues, readPartial, readOperator, readSizes, readHead, readEnd}
 use Rattle.facts.specs.FieldLaws.{number-ends, number-reads, field-refused, field-wrong, field-good}
 use Rattle.taskfile.specs.Task.{Edge, Node, maxVariables, maxValues, maxActions, maxNodes, maxBytes, level}
-use Rattle.taskfile.specs.TaskFile.{edgeBytes, nodeBytes, checkTargets, checkRising, readVariable, readTarget, readEdge, readEdges, readNode, readNodes, readDiagram, readAction, readActions, readTask}
+use Rattle.taskfile.specs.TaskFile.{edgeBytes, nodeBytes, checkTargets, checkRising, readVariable, readTarget, readEdge, readEdges, readNode, readNodes, readDiagram, readAction, readActions, readBytes, readTask}
 use Rattle.taskfile.specs.DiagramReadLaws.{node-read}
 use Rattle.taskfile.specs.FrontLaws.{front-enough}
 use Rattle.probefile.specs.Probe.{maxSteps}
@@ -167,9 +167,9 @@ module _ (f : List ℕ) where
   actions-in sizes (suc count) left at l =
       then-within _ (action-in sizes left at l) (λ x e l. then-within _ (actions-in sizes count (left - length (x .0 .nodes)) (x .1) l) (λ xs e l. value l))
 
-  task-in : Placed (length f) (readTask f)
-  unfolding readTask
-  task-in =
+  bytes-in : Placed (length f) (readBytes f)
+  unfolding readBytes
+  bytes-in =
       then-within _ (head-in maxVariables maxValues) (λ head e l.
       then-within _ (count-in 1 maxActions (head .1) l) (λ count e l.
       then-within _ (actions-in (head .0 .sizes) (count .0) maxNodes (count .1) l) (λ actions e l.
@@ -184,6 +184,11 @@ module _ (f : List ℕ) where
       then-within _ (field-in 2 (λ n. leb n maxSteps) 3 (head .1) l) (λ count e l.
       then-within _ (each-in (λ (r : ℕ). readStep f (head .0 .sizes)) (λ r at l. then-within _ (operator-in (head .0 .sizes) at l) (λ o e l. value l)) (upFrom 0 (count .0)) (count .1) l) (λ steps e l.
       then-within _ (end-in (steps .1) l) (λ u e g. value tt))))
+
+task-in : (f : List ℕ) → Placed (length f) (readTask f)
+unfolding readTask
+task-in [] = value tt
+task-in (byte ∷ rest) = bytes-in (byte ∷ rest)
 
 -- ---- only the front of a file is looked at
 

@@ -7,7 +7,7 @@ use mathlib.Core.List.{List, [], _∷_, _++_}
 use lib.ListN.{length, set}
 use Rattle.facts.specs.Read.{refused}
 use Rattle.taskfile.specs.TaskFile.{checkTask, costTask, runTask}
-use Rattle.taskfile.specs.Examples.{P, P-bytes, P-read, zero-bytes, P-and-a-byte, first-byte-00, third-byte-02, goal-map-02, node-variable-01, empty-list, list-1, two-byte-state}
+use Rattle.taskfile.specs.Examples.{P, P-bytes, P-read, lone-byte-01, P-and-a-byte, first-byte-00, third-byte-02, goal-map-02, node-variable-01, empty-list, list-1, two-byte-state}
 use Rattle.relaxation.specs.RelaxedTask.{relaxedTask}
 use Rattle.relaxation.specs.FileExamples.{two-byte-sets}
 use Rattle.probefile.specs.ProbeFile.{runProbe}
@@ -19,8 +19,8 @@ use Rattle.cases.specs.Table.{row-7-compile, row-8-running}
 -- ---- the examples
 
 pub record TableExamples : Type 0 where
-  -- "zero bytes": 0
-  pub example-1 : checkTask [] ≡ refused 1 0
+  -- "the lone byte 01": 1; document 01 has zero bytes here, which are the blank task since W1 of document 02
+  pub example-1 : checkTask (1 ∷ []) ≡ refused 1 1
   -- "P and a byte": 40
   pub example-2 : (byte : ℕ) → checkTask (P-bytes ++ (byte ∷ [])) ≡ refused 2 40
   -- "first byte 00": 0
@@ -52,7 +52,7 @@ short = row-7-compile P-bytes 105 106 .1 (P, P-read, rw P-written (omega arith, 
 
 pub table-examples : TableExamples
 table-examples = record {
-  example-1 = zero-bytes;
+  example-1 = lone-byte-01;
   example-2 = P-and-a-byte;
   example-3 = first-byte-00;
   example-4 = third-byte-02;

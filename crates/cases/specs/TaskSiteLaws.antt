@@ -1,6 +1,6 @@
 -- Laws of the sites of task files and probe files: a file is refused exactly if a refusal is due at one of the sites that its reader comes to.
-use mathlib.Core.Path.{_≡_, refl, ap}
-use Prim.Native.Nat.{ℕ, zero, suc, _+_, _-_, _<_}
+use mathlib.Core.Path.{_≡_, refl, ap, _∙_}
+use Prim.Native.Nat.{ℕ, zero, suc, _+_, _*_, _-_, _≤_, _<_}
 use native.Mathlib.Omega.{arith}
 use mathlib.Core.List.{List, [], _∷_}
 use lib.Dec.{leb}
@@ -9,14 +9,21 @@ use borrow.Author.Tests.{leb-false, lt-leb}
 use Rattle.facts.specs.Read.{accepted, refused, _>>=_}
 use Rattle.facts.specs.ReadLaws.{through, next-of, value-of}
 use Rattle.facts.specs.Lists.{upFrom, there}
-use Rattle.facts.specs.Fields.{readOperator, readEnd}
+use Rattle.facts.specs.Fields.{Head, readOperator, readHead, readEnd}
+use Rattle.facts.specs.PartialReadLaws.{partial-read}
+use Rattle.facts.specs.HeadLaws.{head-read}
 use Rattle.taskfile.specs.Task.{Action}
-use Rattle.taskfile.specs.TaskFile.{checkRising, readVariable, readTarget, readEdge, readEdges, readNode, readNodes, readDiagram, readAction, readActions, readTask}
+use Rattle.taskfile.specs.TaskFile.{checkRising, readVariable, readTarget, readEdge, readEdges, readNode, readNodes, readDiagram, readAction, readActions, readBytes, readTask}
+use Rattle.taskfile.specs.BlankLaws.{others-read}
 use Rattle.probefile.specs.ProbeFile.{readStep, readStepCount, readSteps, readProbe}
 use Rattle.cases.specs.Sites.{steps, variable, target, Site, field, falling, end, Due, falls, goes-on, Fault, Only, only, Among, OperatorSites}
 use Rattle.cases.specs.TaskSites.{nodeTotal, EdgeSites, edge-target, edge-weight, NodeSites, node-variable, node-edge, DiagramSites, node-count, node, fall, ActionSites, front, diagram, ActionsSites, TaskSites, head, action-count, action, task-end, ProbeSites, probe-head, step-count, step, probe-end}
 use Rattle.cases.specs.RisingLaws.{rising-found, rising-refused}
 use Rattle.cases.specs.SiteLaws.{first, after, stops, stopped, not-accepted, failed, unmade, Faults, within, alone, line, field-faults, count-faults, weight-faults, each-faults, operator-faults, head-faults}
+
+-- a head is some bytes
+head-some : (f : List ℕ) {h : Head} {at : ℕ} → readHead f 24 8 ≡ accepted (h, at) → 1 ≤ length f
+head-some f {h} e = let g = partial-read f (h .sizes) (1 + 2 * length (h .sizes)) (head-read f 24 8 e .goal) in omega (arith, g .next, g .fits)
 
 module _ (f : List ℕ) where
   variable-faults : (n at : ℕ) → Faults f (readVariable f n at) (Only (field (variable n)) at)
@@ -171,23 +178,27 @@ module _ (f : List ℕ) where
 
   -- ---- a task file
 
-  task-answers : {n p : ℕ} {site : Site} → TaskSites f site p → Due f n p site → readTask f ≡ refused n p
-  unfolding readTask
-  task-answers (head s) due = rw (head-faults f 24 8 .answers s due)
+  task-answers : {n p : ℕ} {site : Site} → TaskSites f site p → Due f n p site → readBytes f ≡ refused n p
+  unfolding readBytes
+  task-answers (head some s) due = rw (head-faults f 24 8 .answers s due)
   task-answers (action-count {p = p} a) due = rw (a, count-faults f 1 32 p .answers only due)
   task-answers (action {h = h} {number = number} {from = from} a b s) due = rw (a, b, actions-faults (h .sizes) number 64 from .answers s due)
   task-answers (task-end {p = p} a b c) due = rw (a, b, c, end-faults p .answers only due)
 
-  pub task-faults : Faults f (readTask f) (TaskSites f)
-  unfolding readTask
-  task-faults = record {
-    found = λ h.
-        line (head-faults f 24 8) h (λ site s. head s) (λ x a h.
-        line (count-faults f 1 32 (x .1)) h (alone (TaskSites f) (action-count a)) (λ y b h.
-        line (actions-faults (x .0 .sizes) (y .0) 64 (y .1)) h (λ site s. action a b s) (λ z c h.
-        line (end-faults (z .1)) h (alone (TaskSites f) (task-end a b c)) (λ u d h. absurd (not-accepted h)))));
-    answers = task-answers;
-  }
+  task-found : 1 ≤ length f → {n p : ℕ} → readBytes f ≡ refused n p → Fault f (TaskSites f) n p
+  unfolding readBytes
+  task-found some h =
+      line (head-faults f 24 8) h (λ site s. head some s) (λ x a h.
+      line (count-faults f 1 32 (x .1)) h (alone (TaskSites f) (action-count a)) (λ y b h.
+      line (actions-faults (x .0 .sizes) (y .0) 64 (y .1)) h (λ site s. action a b s) (λ z c h.
+      line (end-faults (z .1)) h (alone (TaskSites f) (task-end a b c)) (λ u d h. absurd (not-accepted h)))))
+
+  -- no site is come to in an empty file
+  come-to : {site : Site} {p : ℕ} → TaskSites f site p → 1 ≤ length f
+  come-to (head some s) = some
+  come-to (action-count a) = head-some f a
+  come-to (action a b s) = head-some f a
+  come-to (task-end a b c) = head-some f a
 
   -- ---- a probe file
 
@@ -220,3 +231,12 @@ module _ (f : List ℕ) where
         line (end-faults (z .1)) h (alone (ProbeSites f) (probe-end a b c)) (λ u d h. absurd (not-accepted h)))));
     answers = probe-answers;
   }
+
+-- an empty task file is not refused
+any-found : (f : List ℕ) {n p : ℕ} → readTask f ≡ refused n p → Fault f (TaskSites f) n p
+unfolding readTask
+any-found [] h = absurd (not-accepted h)
+any-found (byte ∷ rest) h = task-found (byte ∷ rest) (omega arith) h
+
+pub task-faults : (f : List ℕ) → Faults f (readTask f) (TaskSites f)
+task-faults f = record { found = any-found f; answers = λ s due. others-read f (come-to f s) ∙ task-answers f s due }

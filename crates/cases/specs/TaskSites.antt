@@ -78,9 +78,9 @@ module _ (f : List ℕ) where
     pub leaves : room ≡ left - nodeTotal before
     pub come : ActionSites sizes room from site p
 
-  -- a task file
+  -- a task file; an empty one is accepted, and has none
   pub data TaskSites : Site → ℕ → Type 0 where
-    head : {p : ℕ} {site : Site} → HeadSites f 24 8 site p → TaskSites site p
+    head : {p : ℕ} {site : Site} → 1 ≤ length f → HeadSites f 24 8 site p → TaskSites site p
     action-count : {h : Head} {p : ℕ} → readHead f 24 8 ≡ accepted (h, p) → TaskSites (field (count 1 32)) p
     action : {h : Head} {at number from p : ℕ} {site : Site} → readHead f 24 8 ≡ accepted (h, at) → readCount f 1 32 at ≡ accepted (number, from)
         → ActionsSites (h .sizes) number 64 from site p → TaskSites site p

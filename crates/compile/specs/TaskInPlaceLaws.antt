@@ -89,7 +89,7 @@ module _ (f : List ℕ) {n k : ℕ} {row : List ℕ} (ready : Ready f n k row) w
       → bytes ≡ total stepBytes (steps sizes) → own + bytes ≡ length (writeProbe (probeOf t))
   unfolding probeOf
   file-length e h b =
-      let wf = task-wf f (task-there f ready .reads) in
+      let wf = task-wf _ (task-there f ready .reads) in
       let init : length (probeOf t .init) ≡ length (t .init) + suc (length (t .actions)) = simp (length-append, length-replicate {A = ℕ} (length (t .actions)) 0) in
       omega (
         arith,

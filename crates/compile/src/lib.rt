@@ -1,11 +1,13 @@
 // The probe file of a task: written into the caller's buffer.
 use compilation::Compiled;
 use facts::Refusal;
+use index::bytes_of;
 use probe_writer::length::extent_of;
 use taskfile::Counted;
 use taskfile::Task;
 ghost use mathlib.Core.Path.{_≡_};
 ghost use lib.ListN.{length};
+ghost use Rattle.taskfile.specs.Blank.{fileOf};
 ghost use Rattle.taskfile.specs.Index.{Ready};
 ghost use Rattle.compilation.specs.CompileFile.{compileFile, compiledBuffer, compiledAnswer};
 
@@ -17,12 +19,14 @@ pub fn compile(file: &[u8], out: &mut [u8]) -> Compiled
     let mut row = [0; Task::ROW];
     match index::index_in(file, &mut row) {
         Counted::Refused(why) => Compiled::Refused(why),
-        Counted::Actions(variables, actions) => { compile_in(file, variables, actions, &row, out) }
+        Counted::Actions(variables, actions) => {
+            compile_in(bytes_of(file, &Task::BLANK), variables, actions, &row, out)
+        }
     }
 }
 
-// The same, of a file that is accepted, from its index: the index is lent, and not copied.
-fn compile_in(
+// The same, of an accepted file by the bytes in which its task is found and their index, which is lent, and not copied.
+pub fn compile_in(
     file: &[u8],
     variables: usize,
     actions: usize,
@@ -30,8 +34,8 @@ fn compile_in(
     out: &mut [u8],
 ) -> Compiled
     requires { ⌜ Ready (now file) variables actions (now row) ⌝ }
-    ensures { λ r. ⌜ compiledAnswer r ≡ compileFile (now (file .entry)) (length (now (out .entry))) ⌝ }
-    ensures { λ r. ⌜ now (out .exit) ≡ compiledBuffer (now (file .entry)) (now (out .entry)) ⌝ }
+    ensures { λ r. ⌜ compiledAnswer r ≡ compileFile (fileOf (now (file .entry))) (length (now (out .entry))) ⌝ }
+    ensures { λ r. ⌜ now (out .exit) ≡ compiledBuffer (fileOf (now (file .entry))) (now (out .entry)) ⌝ }
 {
     let last = 1 + variables;
     let sizes = &file[1..last];

@@ -6,10 +6,12 @@ use compilation::Compiled;
 use facts::Ran;
 use facts::Refusal;
 use follow::Followed;
+use index::bytes_of;
 use taskfile::Counted;
 use taskfile::Task;
 ghost use mathlib.Core.Path.{_≡_};
 ghost use lib.ListN.{length};
+ghost use Rattle.taskfile.specs.Blank.{fileOf};
 ghost use Rattle.taskfile.specs.Index.{Ready};
 ghost use Rattle.carry.specs.CarryFile.{contracted, answerIn, bufferIn};
 ghost use Rattle.carry.specs.Answers.{carriedAnswer};
@@ -24,12 +26,19 @@ pub fn contract(file: &[u8], list: &[u16], out: &mut [u16]) -> Carried
     match index::index_in(file, &mut row) {
         Counted::Refused(why) => Carried::Refused(why),
         Counted::Actions(variables, actions) => {
-            contract_in(file, variables, actions, &row, list, out)
+            contract_in(
+                bytes_of(file, &Task::BLANK),
+                variables,
+                actions,
+                &row,
+                list,
+                out,
+            )
         }
     }
 }
 
-// The same, of a file that is accepted: a plan is followed on the task; only where a list strays from all plans its refusal is looked for on the written
+// The same, of an accepted file by the bytes in which its task is found: a plan is followed on the task; only where a list strays from all plans its refusal is looked for on the written
 // file.
 fn contract_in(
     file: &[u8],
@@ -40,8 +49,8 @@ fn contract_in(
     out: &mut [u16],
 ) -> Carried
     requires { ⌜ Ready (now file) variables actions (now row) ⌝ }
-    ensures { λ r. ⌜ carriedAnswer r ≡ answerIn (length (now (out .entry))) (contracted (now (file .entry)) (now (list .entry))) ⌝ }
-    ensures { λ r. ⌜ now (out .exit) ≡ bufferIn (now (out .entry)) (contracted (now (file .entry)) (now (list .entry))) ⌝ }
+    ensures { λ r. ⌜ carriedAnswer r ≡ answerIn (length (now (out .entry))) (contracted (fileOf (now (file .entry))) (now (list .entry))) ⌝ }
+    ensures { λ r. ⌜ now (out .exit) ≡ bufferIn (now (out .entry)) (contracted (fileOf (now (file .entry))) (now (list .entry))) ⌝ }
 {
     let mut plan = [0; Task::MAX_LIST];
     match follow::follow_plan(file, variables, actions, row, list, &mut plan) {
@@ -66,11 +75,11 @@ fn contract_written(
     out: &mut [u16],
 ) -> Carried
     requires { ⌜ Ready (now file) variables actions (now row) ⌝ }
-    ensures { λ r. ⌜ carriedAnswer r ≡ answerIn (length (now (out .entry))) (contracted (now (file .entry)) (now (list .entry))) ⌝ }
-    ensures { λ r. ⌜ now (out .exit) ≡ bufferIn (now (out .entry)) (contracted (now (file .entry)) (now (list .entry))) ⌝ }
+    ensures { λ r. ⌜ carriedAnswer r ≡ answerIn (length (now (out .entry))) (contracted (fileOf (now (file .entry))) (now (list .entry))) ⌝ }
+    ensures { λ r. ⌜ now (out .exit) ≡ bufferIn (now (out .entry)) (contracted (fileOf (now (file .entry))) (now (list .entry))) ⌝ }
 {
     let mut written = [0; Task::MAX_WRITTEN];
-    match compile::compile(file, &mut written) {
+    match compile::compile_in(file, variables, actions, row, &mut written) {
         Compiled::Refused(why) => Carried::Refused(why),
         Compiled::Length(length) => match probe::run(&written[..length], list) {
             Ran::Refused(why) => Carried::Refused(why),

@@ -13,6 +13,7 @@ ghost use lib.ListN.{length, getD, replicate};
 ghost use Rattle.facts.specs.Write.{Wrote};
 ghost use Rattle.probefile.specs.Probe.{maxSteps};
 ghost use Rattle.taskfile.specs.Task.{maxActions};
+ghost use Rattle.taskfile.specs.Blank.{fileOf};
 ghost use Rattle.taskfile.specs.Index.{Ready};
 ghost use Rattle.carry.specs.CarryFile.{contracted, answerIn, bufferIn};
 ghost use Rattle.carry.specs.Answers.{carriedAnswer, startsAnswer};
@@ -28,9 +29,9 @@ pub fn contract_plan(
     sum: u32,
     out: &mut [u16],
 ) -> Carried
-    requires { ⌜ Ready (now file) variables actions (now row) × ProbePlanOf (now file) (now list) sum ⌝ }
-    ensures { λ r. ⌜ carriedAnswer r ≡ answerIn (length (now (out .entry))) (contracted (now (file .entry)) (now (list .entry))) ⌝ }
-    ensures { λ r. ⌜ now (out .exit) ≡ bufferIn (now (out .entry)) (contracted (now (file .entry)) (now (list .entry))) ⌝ }
+    requires { ⌜ Ready (now file) variables actions (now row) × ProbePlanOf (fileOf (now file)) (now list) sum ⌝ }
+    ensures { λ r. ⌜ carriedAnswer r ≡ answerIn (length (now (out .entry))) (contracted (fileOf (now (file .entry))) (now (list .entry))) ⌝ }
+    ensures { λ r. ⌜ now (out .exit) ≡ bufferIn (now (out .entry)) (contracted (fileOf (now (file .entry))) (now (list .entry))) ⌝ }
 {
     let mut action_of = [0; Probe::MAX_STEPS];
     note_starts(file, variables, actions, row, &mut action_of);
@@ -48,7 +49,7 @@ pub fn contract_plan(
 // Notes at each start's number 1 and the number of its action; at every other step's 0 stays.
 fn note_starts(file: &[u8], variables: usize, actions: usize, row: &[usize], action_of: &mut [u8])
     requires { ⌜ Ready (now file) variables actions (now row) × (now «action_of» ≡ replicate maxSteps 0) ⌝ }
-    ensures { λ r. ⌜ NotedIn (now (file .entry)) (now («action_of» .exit)) ⌝ }
+    ensures { λ r. ⌜ NotedIn (fileOf (now (file .entry))) (now («action_of» .exit)) ⌝ }
 {
     let last = 1 + variables;
     let mut first_step = [0; Task::MAX_ACTIONS + 1];

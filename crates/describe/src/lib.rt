@@ -2,6 +2,7 @@
 mod task;
 
 use facts::Refusal;
+use index::bytes_of;
 use taskfile::Counted;
 use taskfile::Task;
 use text::append::append;
@@ -9,6 +10,7 @@ use words::Described;
 ghost use mathlib.Core.Path.{_≡_};
 ghost use lib.ListN.{length};
 ghost use Rattle.facts.specs.Write.{lengthIn, writtenIn};
+ghost use Rattle.taskfile.specs.Blank.{fileOf};
 ghost use Rattle.taskfile.specs.Index.{Ready};
 ghost use Rattle.text.specs.Append.{Adds};
 ghost use Rattle.words.specs.DescribeFile.{shown};
@@ -23,11 +25,13 @@ pub fn show(file: &[u8], out: &mut [u8]) -> Described
     let mut row = [0; Task::ROW];
     match index::index_in(file, &mut row) {
         Counted::Refused(why) => Described::Refused(why),
-        Counted::Actions(variables, actions) => { show_in(file, variables, actions, &row, out) }
+        Counted::Actions(variables, actions) => {
+            show_in(bytes_of(file, &Task::BLANK), variables, actions, &row, out)
+        }
     }
 }
 
-// The same, of a file that is accepted: the text is counted first.
+// The same, of an accepted file by the bytes in which its task is found: the text is counted first.
 fn show_in(
     file: &[u8],
     variables: usize,
@@ -36,8 +40,8 @@ fn show_in(
     out: &mut [u8],
 ) -> Described
     requires { ⌜ Ready (now file) variables actions (now row) ⌝ }
-    ensures { λ r. ⌜ describedAnswer r ≡ lengthIn (length (now (out .entry))) (shown (now (file .entry))) ⌝ }
-    ensures { λ r. ⌜ now (out .exit) ≡ writtenIn (now (out .entry)) (shown (now (file .entry))) ⌝ }
+    ensures { λ r. ⌜ describedAnswer r ≡ lengthIn (length (now (out .entry))) (shown (fileOf (now (file .entry)))) ⌝ }
+    ensures { λ r. ⌜ now (out .exit) ≡ writtenIn (now (out .entry)) (shown (fileOf (now (file .entry)))) ⌝ }
 {
     let mut none = [0; 0];
     let needed = put_task(&mut none, file, variables, actions, row);

@@ -2,6 +2,7 @@
 mod dot;
 
 use facts::Refusal;
+use index::bytes_of;
 use taskfile::Counted;
 use taskfile::Task;
 use words::Described;
@@ -23,7 +24,16 @@ pub fn draw(file: &[u8], out: &mut [u8]) -> Described
     let mut row = [0; Task::ROW];
     match index::index_in(file, &mut row) {
         Counted::Refused(why) => Described::Refused(why),
-        Counted::Actions(variables, actions) => { draw_in(file, variables, &row, 0, actions, out) }
+        Counted::Actions(variables, actions) => {
+            draw_in(
+                bytes_of(file, &Task::BLANK),
+                variables,
+                &row,
+                0,
+                actions,
+                out,
+            )
+        }
     }
 }
 
@@ -39,7 +49,14 @@ pub fn draw_action(file: &[u8], action: usize, out: &mut [u8]) -> Described
             if actions <= action {
                 return Described::Refused(Refusal::Missing(0));
             }
-            draw_in(file, variables, &row, action, action + 1, out)
+            draw_in(
+                bytes_of(file, &Task::BLANK),
+                variables,
+                &row,
+                action,
+                action + 1,
+                out,
+            )
         }
     }
 }

@@ -1,12 +1,14 @@
 // Expanding: the probe list that comes from a list of actions.
 use carry::Carried;
 use facts::Refusal;
+use index::bytes_of;
 use taskfile::Counted;
 use taskfile::Task;
 ghost use mathlib.Core.Path.{_≡_};
 ghost use Prim.Native.Nat.{_*_, _≤_};
 ghost use lib.ListN.{length};
 ghost use Rattle.taskfile.specs.Task.{maxList, maxEntries};
+ghost use Rattle.taskfile.specs.Blank.{fileOf};
 ghost use Rattle.taskfile.specs.Index.{Ready};
 ghost use Rattle.carry.specs.CarryFile.{expanded, answerIn, bufferIn};
 ghost use Rattle.carry.specs.Answers.{carriedAnswer};
@@ -26,12 +28,19 @@ pub fn expand(file: &[u8], list: &[u16], out: &mut [u16]) -> Carried
     match index::index_in(file, &mut row) {
         Counted::Refused(why) => Carried::Refused(why),
         Counted::Actions(variables, actions) => {
-            expand_in(file, variables, actions, &row, list, out)
+            expand_in(
+                bytes_of(file, &Task::BLANK),
+                variables,
+                actions,
+                &row,
+                list,
+                out,
+            )
         }
     }
 }
 
-// The same, of a file that is accepted: the probe list is written into a buffer of its own first, as a list may be refused at its end.
+// The same, of an accepted file by the bytes in which its task is found: the probe list is written into a buffer of its own first, as a list may be refused at its end.
 fn expand_in(
     file: &[u8],
     variables: usize,
@@ -41,8 +50,8 @@ fn expand_in(
     out: &mut [u16],
 ) -> Carried
     requires { ⌜ Ready (now file) variables actions (now row) ⌝ }
-    ensures { λ r. ⌜ carriedAnswer r ≡ answerIn (length (now (out .entry))) (expanded (now (file .entry)) (now (list .entry))) ⌝ }
-    ensures { λ r. ⌜ now (out .exit) ≡ bufferIn (now (out .entry)) (expanded (now (file .entry)) (now (list .entry))) ⌝ }
+    ensures { λ r. ⌜ carriedAnswer r ≡ answerIn (length (now (out .entry))) (expanded (fileOf (now (file .entry))) (now (list .entry))) ⌝ }
+    ensures { λ r. ⌜ now (out .exit) ≡ bufferIn (now (out .entry)) (expanded (fileOf (now (file .entry))) (now (list .entry))) ⌝ }
 {
     if Task::MAX_LIST < list.len() {
         return Carried::Refused(Refusal::Long(Task::MAX_LIST));
@@ -70,8 +79,8 @@ fn expand_by(
     out: &mut [u16],
 ) -> Carried
     requires { ⌜ Ready (now file) variables actions (now row) × (length (now list) ≤ maxList) × (maxEntries * length (now list) ≤ length (now room)) ⌝ }
-    ensures { λ r. ⌜ carriedAnswer r ≡ answerIn (length (now (out .entry))) (expanded (now (file .entry)) (now (list .entry))) ⌝ }
-    ensures { λ r. ⌜ now (out .exit) ≡ bufferIn (now (out .entry)) (expanded (now (file .entry)) (now (list .entry))) ⌝ }
+    ensures { λ r. ⌜ carriedAnswer r ≡ answerIn (length (now (out .entry))) (expanded (fileOf (now (file .entry))) (now (list .entry))) ⌝ }
+    ensures { λ r. ⌜ now (out .exit) ≡ bufferIn (now (out .entry)) (expanded (fileOf (now (file .entry))) (now (list .entry))) ⌝ }
 {
     match expansion::put_plan(file, variables, actions, row, list, room) {
         Carried::Refused(why) => Carried::Refused(why),

@@ -17,6 +17,7 @@ ghost use lib.ListN.{length};
 ghost use Rattle.facts.specs.Partial.{partialAt};
 ghost use Rattle.facts.specs.State.{Inside};
 ghost use Rattle.taskfile.specs.Task.{maxList, maxEntries};
+ghost use Rattle.taskfile.specs.Blank.{fileOf};
 ghost use Rattle.taskfile.specs.Index.{Ready};
 ghost use Rattle.taskfile.specs.TaskFile.{sumTask};
 ghost use Rattle.taskfile.specs.WalkInPlace.{moveAt, runList};
@@ -34,7 +35,7 @@ pub fn put_plan(
     out: &mut [u16],
 ) -> Carried
     requires { ⌜ Ready (now file) variables actions (now row) × (length (now list) ≤ maxList) × (maxEntries * length (now list) ≤ length (now out)) ⌝ }
-    ensures { λ r. ⌜ WroteIf r (sumTask (now (file .entry)) (now (list .entry))) (expansion (now (file .entry)) (now (list .entry))) (now (out .entry)) (now (out .exit)) ⌝ }
+    ensures { λ r. ⌜ WroteIf r (sumTask (fileOf (now (file .entry))) (now (list .entry))) (expansion (fileOf (now (file .entry))) (now (list .entry))) (now (out .entry)) (now (out .exit)) ⌝ }
 {
     let last = 1 + variables;
     let sizes = &file[1..last];

@@ -11,6 +11,7 @@ use Rattle.facts.specs.ListLaws.{look}
 use Rattle.facts.specs.RunLaws.{list-long, list-fits}
 use Rattle.taskfile.specs.Task.{Action, Task, maxList}
 use Rattle.taskfile.specs.TaskFile.{readTask, checkTask}
+use Rattle.taskfile.specs.Blank.{fileOf}
 use Rattle.taskfile.specs.Index.{Ready}
 use Rattle.taskfile.specs.AnswerLaws.{there, starts}
 use Rattle.taskfile.specs.PartsInPlaceLaws.{at-some, action-here}
@@ -33,7 +34,7 @@ module _ (f list : List ℕ) where
     abbrev t : Task
     t = there f ready .task
 
-    pub task-long : maxList < length list → taskFailure f list ≡ refused 8 maxList
+    pub task-long : maxList < length list → taskFailure (fileOf f) list ≡ refused 8 maxList
     unfolding taskFailure
     task-long l = rw (there f ready .reads, list-long maxList list l)
 
@@ -44,7 +45,7 @@ module _ (f list : List ℕ) where
         let same = action-here f (ready .located .lies t (there f ready .reads) a (x .0) (x .1)) in
         (rw (look (x .1), actionPre, getD-take count row a 0 l) (sym (ap (λ (x : Action). x .pre) same)), rw (look (x .1), actionEff, getD-take count row a 0 l) (sym (ap (λ (x : Action). x .eff) same)))
 
-    pub task-fits : count ≤ length row → length list ≤ maxList → taskFailure f list ≡ failureIn f (bytes "action ") (take count row) (1 + 2 * n) list (take n (drop (1 + n) f))
+    pub task-fits : count ≤ length row → length list ≤ maxList → taskFailure (fileOf f) list ≡ failureIn f (bytes "action ") (take count row) (1 + 2 * n) list (take n (drop (1 + n) f))
     unfolding taskFailure failureIn
     task-fits few l =
         let long : length (take count row) ≡ count = length-take-le count row few in

@@ -3,6 +3,7 @@ mod run;
 pub mod sentence;
 
 use facts::Refusal;
+use index::bytes_of;
 use probefile::Indexed;
 use probefile::Probe;
 use taskfile::Counted;
@@ -44,7 +45,14 @@ pub fn task_failure(file: &[u8], list: &[u16], out: &mut [u8]) -> Described
             if Task::MAX_LIST < list.len() {
                 return Described::Refused(Refusal::Long(Task::MAX_LIST));
             }
-            failure_in(file, variables, &row[..actions], b"action ", list, out)
+            failure_in(
+                bytes_of(file, &Task::BLANK),
+                variables,
+                &row[..actions],
+                b"action ",
+                list,
+                out,
+            )
         }
     }
 }

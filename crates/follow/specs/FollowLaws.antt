@@ -21,6 +21,7 @@ use Rattle.facts.specs.State.{Inside}
 use Rattle.facts.specs.Run.{runFrom}
 use Rattle.taskfile.specs.Task.{Action, Task, WfAction, maxWeight, maxList, taskSum}
 use Rattle.taskfile.specs.TaskLaws.{task-plan}
+use Rattle.taskfile.specs.Blank.{fileOf}
 use Rattle.taskfile.specs.Index.{Ready}
 use Rattle.taskfile.specs.AnswerLaws.{there as task-there, starts}
 use Rattle.taskfile.specs.Row.{firstsFrom, ownFrom}
@@ -237,7 +238,7 @@ module _ (f : List ℕ) {variables count : ℕ} {row : List ℕ} (ready : Ready 
   t = task-there f ready .task
 
   -- It can be followed.
-  pub followable : {sizes first-step first-edge action-of : List ℕ} → sizes ≡ t .sizes → Numbered (actionsIn f sizes row 0 count) row first-step first-edge → NotedIn f action-of
+  pub followable : {sizes first-step first-edge action-of : List ℕ} → sizes ≡ t .sizes → Numbered (actionsIn f sizes row 0 count) row first-step first-edge → NotedIn (fileOf f) action-of
       → Followable f sizes count row first-step first-edge action-of
   followable {action-of = action-of} e n noted = record {
     long = omega (arith, ready .long, starts f ready .actions);
@@ -250,17 +251,17 @@ module _ (f : List ℕ) {variables count : ℕ} {row : List ℕ} (ready : Ready 
 
   -- Where it is followed to its end, it is contracted to the actions that it comes from.
   pub followed-contracts : {sizes state list out : List ℕ} {n sum : ℕ} → sizes ≡ t .sizes → state ≡ t .init → length out ≤ maxList
-      → Plan-followed f sizes (1 + 2 * variables) count row list state out n sum → (n ≤ length out) × (contracted f list ≡ accepted (take n out, sum))
+      → Plan-followed f sizes (1 + 2 * variables) count row list state out n sum → (n ≤ length out) × (contracted (fileOf f) list ≡ accepted (take n out, sum))
   unfolding expand
   followed-contracts {sizes} {state} {list} {out} {n} {sum} e s few p =
       let plan = take n out in
       let short : length plan ≤ maxList = omega (arith, length-take-le n out (p .within), p .within) in
       let run : taskSum t plan ≡ accepted sum = sym (sum-in-place f (reads f ready) (ready .located) (sym (task-there f ready .actions)) (1 + 2 * variables) plan state s (starts f ready .goal)) ∙ p .runs in
       let comes : list ≡ expand t plan = p .comes ∙ ap₂ (λ (xs : List Action) (z : List ℕ). expandFrom xs plan z) (actions-are f ready e) s in
-      (p .within, ap (contracted f) comes ∙ contracted-plan f (reads f ready) (task-plan t plan sum .1 run) short)
+      (p .within, ap (contracted (fileOf f)) comes ∙ contracted-plan (fileOf f) (reads f ready) (task-plan t plan sum .1 run) short)
 
   -- Whatever is answered.
   pub followed-answers : {sizes state : List ℕ} (list out : List ℕ) → sizes ≡ t .sizes → state ≡ t .init → length out ≤ maxList → (r : Followed)
-      → PlanTo f sizes (1 + 2 * variables) count row list state out r → ContractsTo f list out r
+      → PlanTo f sizes (1 + 2 * variables) count row list state out r → ContractsTo (fileOf f) list out r
   followed-answers list out e s few (Plan n sum) p = followed-contracts e s few p
   followed-answers list out e s few NoPlan p = tt

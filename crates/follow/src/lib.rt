@@ -18,6 +18,7 @@ ghost use mathlib.Core.Path.{_≡_};
 ghost use Prim.Native.Nat.{_+_, _≤_, _<_};
 ghost use lib.ListN.{length, getD};
 ghost use Rattle.facts.specs.State.{Inside};
+ghost use Rattle.taskfile.specs.Blank.{fileOf};
 ghost use Rattle.taskfile.specs.Index.{Ready};
 ghost use Rattle.taskfile.specs.Task.{maxList};
 ghost use Rattle.taskfile.specs.WalkInPlace.{maxPassed, nodeCount};
@@ -46,7 +47,7 @@ pub fn follow_plan(
     plan: &mut [u16],
 ) -> Followed
     requires { ⌜ Ready (now file) variables actions (now row) × (length (now plan) ≤ maxList) ⌝ }
-    ensures { λ r. ⌜ ContractsTo (now (file .entry)) (now (list .entry)) (now (plan .exit)) r ⌝ }
+    ensures { λ r. ⌜ ContractsTo (fileOf (now (file .entry))) (now (list .entry)) (now (plan .exit)) r ⌝ }
 {
     let last = 1 + variables;
     let sizes = &file[1..last];

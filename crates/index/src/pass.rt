@@ -22,13 +22,18 @@ ghost use Rattle.taskfile.specs.Row.{nodesFrom, rowLong};
 ghost use Rattle.taskfile.specs.InPlace.{actionAt, Action-placed, frontNoted, Fronts, Listed, taskAt};
 ghost use Rattle.taskfile.specs.Index.{Noted};
 
-// How many variables and actions a task file has; where each action, its effect and its incoming weight stand, which of all nodes is its first, where each node starts and which variable it tests.
+// How many variables and actions a task file has, an empty one those of the blank task; where each action, its effect and its incoming weight stand, which of all nodes is its first, where each node starts and which variable it tests.
 pub fn index_into(file: &[u8], row: &mut [usize]) -> Counted
     requires { ⌜ rowLong ≤ length (now row) ⌝ }
     ensures { λ r. ⌜ (countedAnswer r ≡ taskAt (now (file .entry))) × Noted (now (file .entry)) (countedAnswer r) (now (row .exit)) ⌝ }
 {
     match head::read_head(file, Task::MAX_VARIABLES as u64, Task::MAX_VALUES as u64) {
-        Headed::Refused(why) => Counted::Refused(why),
+        Headed::Refused(why) => {
+            if file.len() == 0 {
+                return Counted::Actions(1, 0);
+            }
+            Counted::Refused(why)
+        }
         Headed::Head(variables, at) => index_actions(file, variables, at, row),
     }
 }

@@ -23,6 +23,7 @@ use Rattle.taskfile.specs.Task.{Action, Task, Walk, maxList, Plan, WfAction, ma
 use Rattle.taskfile.specs.TaskFile.{readTask, checkTask, sumTask}
 use Rattle.taskfile.specs.TaskReadLaws.{task-wf, task-limits}
 use Rattle.taskfile.specs.TaskLaws.{task-plan}
+use Rattle.taskfile.specs.Blank.{fileOf}
 use Rattle.taskfile.specs.Index.{Ready}
 use Rattle.taskfile.specs.Row.{firstsFrom, ownFrom}
 use Rattle.taskfile.specs.WalkInPlace.{nodeCount, walkAt, performBy, performAt}
@@ -154,7 +155,7 @@ module _ (f : List ℕ) {variables count : ℕ} {row : List ℕ} (ready : Ready 
 
   -- The initial values are inside the domains.
   pub init-inside : {sizes state : List ℕ} → sizes ≡ t .sizes → state ≡ t .init → Inside sizes state
-  init-inside e s = rw (e, s) (task-wf f (reads f ready) .init)
+  init-inside e s = rw (e, s) (task-wf _ (reads f ready) .init)
 
   -- All is prepared to write expansions.
   pub prepared : {sizes first-step first-edge : List ℕ} → sizes ≡ t .sizes → Numbered (actionsIn f sizes row 0 count) row first-step first-edge → Prepared f sizes count row first-step first-edge
@@ -164,19 +165,19 @@ module _ (f : List ℕ) {variables count : ℕ} {row : List ℕ} (ready : Ready 
         long = omega (arith, ready .long, starts f ready .actions);
         weighs = λ a l. weighs f (actions-stood f ready e a l) (ready .fronts .incoming a l);
         tested = all-tested f ready;
-        variables = omega (arith, ap length e, task-limits f (reads f ready) .variables);
-        well-formed = λ {a} {x} h. subst (λ (ds : List ℕ). WfAction ds x) (sym e) (task-wf f (reads f ready) .actions (subst (λ (xs : List Action). At xs a x) same h));
+        variables = omega (arith, ap length e, task-limits _ (reads f ready) .variables);
+        well-formed = λ {a} {x} h. subst (λ (ds : List ℕ). WfAction ds x) (sym e) (task-wf _ (reads f ready) .actions (subst (λ (xs : List Action). At xs a x) same h));
         numbered = n;
         few = omega (arith, ap (total stepCount) same, steps-few f ready);
       }
 
   -- What is written from the initial state on is the expansion.
-  entries-are : (list : List ℕ) {sizes state : List ℕ} {c : ℕ} → sumTask f list ≡ accepted c → sizes ≡ t .sizes → state ≡ t .init → expandFrom (actionsIn f sizes row 0 count) list state ≡ expansion f list
+  entries-are : (list : List ℕ) {sizes state : List ℕ} {c : ℕ} → sumTask (fileOf f) list ≡ accepted c → sizes ≡ t .sizes → state ≡ t .init → expandFrom (actionsIn f sizes row 0 count) list state ≡ expansion (fileOf f) list
   unfolding expand
-  entries-are list r e s = rw (e, s, actions-in-place f ready) (sym (expansion-is f (reads f ready) list (ran-plan f (reads f ready) list r)))
+  entries-are list r e s = rw (e, s, actions-in-place f ready) (sym (expansion-is (fileOf f) (reads f ready) list (ran-plan (fileOf f) (reads f ready) list r)))
 
-  pub wrote-expansion : (list before now : List ℕ) {sizes state : List ℕ} {ran : Read ℕ} (r : Carried) → sizes ≡ t .sizes → state ≡ t .init → ran ≡ sumTask f list
-      → WroteIf r ran (expandFrom (actionsIn f sizes row 0 count) list state) before now → WroteIf r (sumTask f list) (expansion f list) before now
+  pub wrote-expansion : (list before now : List ℕ) {sizes state : List ℕ} {ran : Read ℕ} (r : Carried) → sizes ≡ t .sizes → state ≡ t .init → ran ≡ sumTask (fileOf f) list
+      → WroteIf r ran (expandFrom (actionsIn f sizes row 0 count) list state) before now → WroteIf r (sumTask (fileOf f) list) (expansion (fileOf f) list) before now
   wrote-expansion list before now (Listed n sum) e s same (h, w) = let runs = h ∙ same in (runs, subst (λ (es : List ℕ). Wrote es before now n) (entries-are list (sym runs) e s) w)
   wrote-expansion list before now (NotCarried why) e s same h = h ∙ same
 

@@ -13,6 +13,7 @@ use borrow.Author.Tests.{eqb-true, eqb-false}
 use Rattle.facts.specs.Read.{_>>=_}
 use Rattle.facts.specs.Lists.{total}
 use Rattle.taskfile.specs.Task.{Action, Task}
+use Rattle.taskfile.specs.Blank.{fileOf}
 use Rattle.taskfile.specs.Index.{Ready}
 use Rattle.taskfile.specs.TaskReadLaws.{task-wf, task-limits}
 use Rattle.taskfile.specs.AnswerLaws.{there as task-there}
@@ -127,12 +128,12 @@ module _ (f : List ℕ) {variables count : ℕ} {row : List ℕ} (ready : Ready 
     -- It is one of 576 numbers.
     pub start-below : (a : ℕ) → a < length starts → getD starts a 0 < maxSteps
     start-below a h =
-        let few = steps-most t (task-wf f (reads f ready)) (task-limits f (reads f ready)) in
+        let few = steps-most t (task-wf _ (reads f ready)) (task-limits _ (reads f ready)) in
         let l : a < length (t .actions) = omega (arith, starts-long) in
         omega (arith, start-at a l, first-below (t .actions) a l, steps-length t, few)
 
     -- Over zeros they are noted, and nothing else.
-    pub note-in : {before now : List ℕ} → before ≡ replicate maxSteps 0 → now ≡ noteFrom 0 starts before → NotedIn f now
+    pub note-in : {before now : List ℕ} → before ≡ replicate maxSteps 0 → now ≡ noteFrom 0 starts before → NotedIn (fileOf f) now
     note-in {before} {now} z m =
         let all = note-starts (t .actions) starts {size = maxSteps} starts-long start-at (λ a h. start-below a (omega (arith, starts-long))) in
         let table : now ≡ noteFrom 0 starts (replicate maxSteps 0) = m ∙ ap (noteFrom 0 starts) z in

@@ -227,13 +227,13 @@ module _ (f : List ℕ) {variables count : ℕ} {row : List ℕ} (ready : Ready 
 
   -- There are at most 576 steps.
   pub steps-few : total stepCount (t .actions) ≤ maxSteps
-  steps-few = omega (arith, steps-length t, steps-most t (task-wf f (reads f ready)) (task-limits f (reads f ready)))
+  steps-few = omega (arith, steps-length t, steps-most t (task-wf _ (reads f ready)) (task-limits _ (reads f ready)))
 
   -- They can be numbered.
   pub rows-there : {sizes : List ℕ} {room : ℕ} → sizes ≡ t .sizes → maxNodes ≤ room → Rows (actionsIn f sizes row 0 count) row room
   rows-there {room = room} e l =
       subst (λ (xs : List Action). Rows xs row room) (sym (actions-are e))
-      (record { few = steps-few; first-is = λ {a} {x} h. ready .located .first-is t (reads f ready) a x h; fits = omega (arith, task-limits f (reads f ready) .nodes); long = omega (arith, task-limits f (reads f ready) .actions, ready .long) })
+      (record { few = steps-few; first-is = λ {a} {x} h. ready .located .first-is t (reads f ready) a x h; fits = omega (arith, task-limits _ (reads f ready) .nodes); long = omega (arith, task-limits _ (reads f ready) .actions, ready .long) })
 
   -- The variables of all nodes are noted.
   pub all-tested : AllTested f count row
@@ -244,4 +244,4 @@ module _ (f : List ℕ) {variables count : ℕ} {row : List ℕ} (ready : Ready 
   actions-wf {sizes} e a l =
       let x = actionIn f sizes (getD row a 0) (drop (ownFrom row a) row) in
       let element = actions-at f sizes row a count l in
-      subst (λ (ds : List ℕ). WfAction ds x) (sym e) (task-wf f (reads f ready) .actions (subst (λ (xs : List Action). At xs a x) (actions-are e) element))
+      subst (λ (ds : List ℕ). WfAction ds x) (sym e) (task-wf _ (reads f ready) .actions (subst (λ (xs : List Action). At xs a x) (actions-are e) element))

@@ -17,6 +17,7 @@ use Rattle.estimate.specs.RanksLaws.{roomy}
 use Rattle.taskfile.specs.Task.{Action, Task, WfAction}
 use Rattle.taskfile.specs.TaskFile.{readTask, checkTask}
 use Rattle.taskfile.specs.Row.{ownFrom}
+use Rattle.taskfile.specs.Blank.{fileOf}
 use Rattle.taskfile.specs.Index.{Ready}
 use Rattle.taskfile.specs.TaskReadLaws.{task-wf, task-limits}
 use Rattle.taskfile.specs.AnswerLaws.{there, starts, sizes-there}
@@ -36,7 +37,7 @@ module _ (f : List ℕ) {n count : ℕ} {row : List ℕ} (ready : Ready f n coun
   abbrev t : Task
   t = there f ready .task
 
-  reads : readTask f ≡ accepted t
+  reads : readTask (fileOf f) ≡ accepted t
   reads = there f ready .reads
 
   -- each action stands in the file
@@ -45,7 +46,7 @@ module _ (f : List ℕ) {n count : ℕ} {row : List ℕ} (ready : Ready f n coun
       let x = at-some (t .actions) a (omega (arith, there f ready .actions)) in
       let lies = ready .located .lies t reads a (x .0) (x .1) in
       let stood = actions-stood f ready refl a h in
-      record { fits = omega (arith, stood .pre .fits); wf = subst (WfAction (t .sizes)) (sym (action-here f lies)) (task-wf f reads .actions (x .1)); few = stood .few }
+      record { fits = omega (arith, stood .pre .fits); wf = subst (WfAction (t .sizes)) (sym (action-here f lies)) (task-wf _ reads .actions (x .1)); few = stood .few }
 
   -- domain sizes and goal as code finds them
   module _ {k : ℕ} (e : k ≡ n) {goal : ℕ} (q : goal ≡ 1 + 2 * n) where
@@ -57,11 +58,11 @@ module _ (f : List ℕ) {n count : ℕ} {row : List ℕ} (ready : Ready f n coun
 
     pub estimable : Estimable f sizes goal count row
     estimable =
-        let limits = task-limits f reads in
+        let limits = task-limits _ reads in
         subst (λ (ds : List ℕ). Estimable f ds goal count row) (sym (sizes-there f ready e))
         (record {
           room = roomy (t .sizes) (limits .variables) (omega arith) (limits .sizes) (omega arith) (omega arith);
-          goal-is = subst (WfPartial (t .sizes)) (sym goal-is) (task-wf f reads .goal);
+          goal-is = subst (WfPartial (t .sizes)) (sym goal-is) (task-wf _ reads .goal);
           long = omega (arith, starts f ready .actions, ready .long);
           action = priceable;
         })
@@ -72,16 +73,16 @@ module _ (f : List ℕ) {n count : ℕ} {row : List ℕ} (ready : Ready f n coun
       state-is = ap (λ (ds : List ℕ). checkState ds s) (sym (sizes-there f ready e))
 
       -- the state is turned down
-      pub turned-down : {n p : ℕ} → checkState sizes s ≡ refused n p → estimateTask f s ≡ refused n p
+      pub turned-down : {n p : ℕ} → checkState sizes s ≡ refused n p → estimateTask (fileOf f) s ≡ refused n p
       turned-down c = estimate-turned-down (λ t. t .sizes) estimate s reads (state-is ∙ c)
 
       -- the estimate in place is that of the task
       pub answered : {r : Number} {u : Unit {0}} → checkState sizes s ≡ accepted u
-          → r ≡ additive sizes (achieversIn f sizes row 0 count) (partialAt f goal) s → accepted r ≡ estimateTask f s
+          → r ≡ additive sizes (achieversIn f sizes row 0 count) (partialAt f goal) s → accepted r ≡ estimateTask (fileOf f) s
       answered c h =
           ap accepted
           (h
           ∙ ap (λ (ds : List ℕ). additive ds (achieversIn f ds row 0 count) (partialAt f goal) s) (sizes-there f ready e)
           ∙ ap₂ (λ (xs : List Action) (p : Partial). additive (t .sizes) (map (actionAchiever leastCostByPass (t .sizes)) xs) p s) (actions-in-place f ready) goal-is
-          ∙ sym (estimate-by-pass (task-wf f reads) s (state-inside (t .sizes) s (state-is ∙ c))))
+          ∙ sym (estimate-by-pass (task-wf _ reads) s (state-inside (t .sizes) s (state-is ∙ c))))
           ∙ sym (estimate-answers (λ t. t .sizes) estimate s reads (state-is ∙ c))

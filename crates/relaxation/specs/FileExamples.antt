@@ -32,7 +32,7 @@ relaxed-3 = refl
 
 -- ---- the order: the file, the number, the length, then the sets, the lowest variable first
 
-no-task : relaxedTask [] 1 [] ≡ refused 1 0
+no-task : relaxedTask (1 ∷ []) 1 [] ≡ refused 1 1
 unfolding relaxing
 no-task = refl
 
@@ -143,7 +143,7 @@ unfolding estimating
 estimate-0 = refl
 
 -- the file, the length, then the lowest variable
-estimate-no-task : estimateTask [] [] ≡ refused 1 0
+estimate-no-task : estimateTask (1 ∷ []) [] ≡ refused 1 1
 unfolding estimating
 estimate-no-task = refl
 
@@ -154,3 +154,8 @@ estimate-short = refl
 estimate-outside : estimateTask (A-and-B 1 1 set-A) (0 ∷ 2 ∷ []) ≡ refused 4 1
 unfolding estimating
 estimate-outside = refl
+
+-- the blank task: its goal holds in both states
+pub estimate-blank : (estimateTask [] (0 ∷ []) ≡ accepted (exact 0)) × (estimateTask [] (1 ∷ []) ≡ accepted (exact 0))
+unfolding estimating
+estimate-blank = (refl, refl)

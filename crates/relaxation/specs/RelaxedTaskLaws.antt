@@ -92,17 +92,17 @@ module _ (f : List ℕ) {n count : ℕ} {row : List ℕ} (ready : Ready f n coun
   own = drop (ownFrom row a) row
 
   small : All (λ d. d ≤ maxValues) (t .sizes)
-  small = small-sizes (t .sizes) (task-limits f (there f ready .reads) .sizes)
+  small = small-sizes (t .sizes) (task-limits _ (there f ready .reads) .sizes)
 
   module _ {x : Action} (h : At (t .actions) a x) where
     lies : Lies f (t .sizes) x start (ownFrom row a) row
     lies = ready .located .lies t (there f ready .reads) a x h
 
     wf : WfAction (t .sizes) x
-    wf = task-wf f (there f ready .reads) .actions h
+    wf = task-wf _ (there f ready .reads) .actions h
 
     few : nodeCount f start ≤ maxNodes
-    few = omega (arith, count-is f lies, total-at (λ (x : Action). length (x .nodes)) h, task-limits f (there f ready .reads) .nodes)
+    few = omega (arith, count-is f lies, total-at (λ (x : Action). length (x .nodes)) h, task-limits _ (there f ready .reads) .nodes)
 
   module _ {at : ℕ} {sizes offsets sets : List ℕ} (p : at ≡ start) (s : sizes ≡ t .sizes) (o : offsets ≡ own) (inside : RelaxedInside sizes sets) where
     -- it has a relaxed cost

@@ -2,6 +2,7 @@
 use facts::Checked;
 use facts::Refusal;
 use facts::number::offset_at;
+use index::bytes_of;
 use taskfile::Counted;
 use taskfile::Tallied;
 use taskfile::Task;
@@ -11,6 +12,7 @@ use walk::walk_from;
 ghost use mathlib.Core.Path.{_≡_};
 ghost use Rattle.facts.specs.Answers.{checkedAnswer};
 ghost use Rattle.taskfile.specs.TaskFile.{checkTask, costTask, runTask};
+ghost use Rattle.taskfile.specs.Blank.{fileOf};
 ghost use Rattle.taskfile.specs.Index.{Ready};
 ghost use Rattle.taskfile.specs.Answers.{talliedAnswer};
 
@@ -33,12 +35,19 @@ pub fn cost(file: &[u8], action: usize, state: &[u8]) -> Tallied
     match index::index_in(file, &mut row) {
         Counted::Refused(why) => Tallied::Refused(why),
         Counted::Actions(variables, actions) => {
-            cost_in(file, variables, actions, &row, action, state)
+            cost_in(
+                bytes_of(file, &Task::BLANK),
+                variables,
+                actions,
+                &row,
+                action,
+                state,
+            )
         }
     }
 }
 
-// The same, of a file that is accepted.
+// The same, of an accepted file by the bytes in which its task is found.
 fn cost_in(
     file: &[u8],
     variables: usize,
@@ -48,7 +57,7 @@ fn cost_in(
     state: &[u8],
 ) -> Tallied
     requires { ⌜ Ready (now file) variables actions (now row) ⌝ }
-    ensures { λ r. ⌜ talliedAnswer r ≡ costTask (now (file .entry)) action (now (state .entry)) ⌝ }
+    ensures { λ r. ⌜ talliedAnswer r ≡ costTask (fileOf (now (file .entry))) action (now (state .entry)) ⌝ }
 {
     if actions <= action {
         return Tallied::Refused(Refusal::Missing(0));
@@ -72,14 +81,16 @@ pub fn run(file: &[u8], list: &[u16]) -> Tallied
     let mut row = [0; Task::ROW];
     match index::index_in(file, &mut row) {
         Counted::Refused(why) => Tallied::Refused(why),
-        Counted::Actions(variables, actions) => { run_in(file, variables, actions, &row, list) }
+        Counted::Actions(variables, actions) => {
+            run_in(bytes_of(file, &Task::BLANK), variables, actions, &row, list)
+        }
     }
 }
 
-// The same, of a file that is accepted: the run starts from a copy of the initial values.
+// The same, likewise: the run starts from a copy of the initial values.
 fn run_in(file: &[u8], variables: usize, actions: usize, row: &[usize], list: &[u16]) -> Tallied
     requires { ⌜ Ready (now file) variables actions (now row) ⌝ }
-    ensures { λ r. ⌜ talliedAnswer r ≡ runTask (now (file .entry)) (now (list .entry)) ⌝ }
+    ensures { λ r. ⌜ talliedAnswer r ≡ runTask (fileOf (now (file .entry))) (now (list .entry)) ⌝ }
 {
     let init = 1 + variables;
     let goal = init + variables;

@@ -3,9 +3,11 @@ mod rounds;
 
 use estimate::Estimated;
 use facts::Checked;
+use index::bytes_of;
 use taskfile::Counted;
 use taskfile::Task;
 ghost use mathlib.Core.Path.{_≡_};
+ghost use Rattle.taskfile.specs.Blank.{fileOf};
 ghost use Rattle.taskfile.specs.Index.{Ready};
 ghost use Rattle.estimate.specs.Answers.{estimatedAnswer};
 ghost use Rattle.relaxation.specs.EstimateTask.{estimateTask};
@@ -18,12 +20,18 @@ pub fn estimate(file: &[u8], state: &[u8]) -> Estimated
     match index::index_in(file, &mut row) {
         Counted::Refused(why) => Estimated::Refused(why),
         Counted::Actions(variables, actions) => {
-            estimate_in(file, variables, actions, &row, state)
+            estimate_in(
+                bytes_of(file, &Task::BLANK),
+                variables,
+                actions,
+                &row,
+                state,
+            )
         }
     }
 }
 
-// The same, of a file that is accepted.
+// The same, of an accepted file by the bytes in which its task is found.
 fn estimate_in(
     file: &[u8],
     variables: usize,
@@ -32,7 +40,7 @@ fn estimate_in(
     state: &[u8],
 ) -> Estimated
     requires { ⌜ Ready (now file) variables actions (now row) ⌝ }
-    ensures { λ r. ⌜ estimatedAnswer r ≡ estimateTask (now (file .entry)) (now (state .entry)) ⌝ }
+    ensures { λ r. ⌜ estimatedAnswer r ≡ estimateTask (fileOf (now (file .entry))) (now (state .entry)) ⌝ }
 {
     let init = 1 + variables;
     let sizes = &file[1..init];

@@ -1,6 +1,7 @@
 // Relaxed costs of task files.
 mod relaxed;
 
+use index::bytes_of;
 use taskfile::Costed;
 use taskfile::Counted;
 use taskfile::Task;
@@ -17,7 +18,14 @@ pub fn relaxed_cost(file: &[u8], action: usize, sets: &[u8]) -> Costed
     match index::index_in(file, &mut row) {
         Counted::Refused(why) => Costed::Refused(why),
         Counted::Actions(variables, actions) => {
-            relaxed::relaxed_in(file, variables, actions, &row, action, sets)
+            relaxed::relaxed_in(
+                bytes_of(file, &Task::BLANK),
+                variables,
+                actions,
+                &row,
+                action,
+                sets,
+            )
         }
     }
 }

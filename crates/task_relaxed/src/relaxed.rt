@@ -15,6 +15,7 @@ ghost use Prim.Native.Nat.{_+_, _*_, _≤_, min};
 ghost use lib.ListN.{length, getD};
 ghost use Rattle.facts.specs.Answers.{checkedAnswer};
 ghost use Rattle.taskfile.specs.Task.{maxVariables, maxValues, maxNodes, maxWeight};
+ghost use Rattle.taskfile.specs.Blank.{fileOf};
 ghost use Rattle.taskfile.specs.Index.{Ready};
 ghost use Rattle.taskfile.specs.PartsInPlace.{nodeIn, actionIn};
 ghost use Rattle.relaxation.specs.Relaxed.{SetInside};
@@ -27,7 +28,7 @@ ghost use Rattle.relaxation.specs.RelaxedTask.{checkRelaxed, relaxedIn, relaxed
 // Above every cost.
 const TOP: u32 = 4294967295;
 
-// The relaxed cost of an action of an accepted file: 11 for the number, then 12 and 4 for the sets, then 17.
+// The relaxed cost of an action of an accepted file, by the bytes in which its task is found: 11 for the number, then 12 and 4 for the sets, then 17.
 pub fn relaxed_in(
     file: &[u8],
     variables: usize,
@@ -37,7 +38,7 @@ pub fn relaxed_in(
     sets: &[u8],
 ) -> Costed
     requires { ⌜ Ready (now file) variables actions (now row) ⌝ }
-    ensures { λ r. ⌜ costedAnswer r ≡ relaxedTask (now (file .entry)) action (now (sets .entry)) ⌝ }
+    ensures { λ r. ⌜ costedAnswer r ≡ relaxedTask (fileOf (now (file .entry))) action (now (sets .entry)) ⌝ }
 {
     if actions <= action {
         return Costed::Refused(Refusal::Missing(0));

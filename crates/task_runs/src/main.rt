@@ -12,7 +12,7 @@ fn main() {
     let nodes65 =
         b"\x01\x02\x00\x01\x00\x00\x00\x00\x00\x00\x00\x01\x01\x00\x00\x00\x00\x00\x00\x00\x00\x01\x00\x00\x00\x00\x00\x00\x00\x01\x03\x00\x41\x00\x02\x05\x00\x02\x00\x00";
     show::checked(task::check(p));
-    show::checked(task::check(b""));
+    show::checked(task::check(b"\x01"));
     show::checked(task::check(b"\x18"));
     show::checked(task::check(b"\x19"));
     show::checked(task::check(b"\x01\x08"));
@@ -42,13 +42,28 @@ fn main() {
     show_run(xyz, &once);
     show_relaxed(xyz, 0, b"\x03\x06\x01");
     show_relaxed(xyz, 0, b"\x02\x06\x03");
-    show_relaxed(b"", 1, b"");
+    show_relaxed(b"\x01", 1, b"");
     show_relaxed(xyz, 1, b"");
     show_relaxed(xyz, 0, b"\x00\x06");
     show_relaxed(xyz, 0, b"\x03\x00\x04");
     show_relaxed(xyz, 0, b"\x03\x06\x04");
     relaxed();
     estimates(p);
+    blank();
+}
+
+// The blank task, which is an empty file (document 02, W1): the empty list is its one plan, there is no action, and both states are estimated at 0. A zero byte is no task.
+fn blank() {
+    let once: [u16; 1] = [0];
+    let none: [u16; 0] = [];
+    show::checked(task::check(b""));
+    show_run(b"", &none);
+    show_run(b"", &once);
+    show_cost(b"", 0, b"\x00");
+    show_relaxed(b"", 0, b"\x01");
+    show::estimated(task_estimate::estimate(b"", b"\x00"));
+    show::estimated(task_estimate::estimate(b"", b"\x01"));
+    show::checked(task::check(b"\x00"));
 }
 
 // Relaxed costs where the precondition counts: xy² + z + 2 with x = 1 and z = 1, and an action without nodes at 7 that needs the same.
@@ -75,7 +90,7 @@ fn estimates(p: &[u8]) {
     show::estimated(task_estimate::estimate(unreached, b"\x00\x00"));
     show::estimated(task_estimate::estimate(both, b"\x00\x01"));
     show::estimated(task_estimate::estimate(p, b"\x00"));
-    show::estimated(task_estimate::estimate(b"", b""));
+    show::estimated(task_estimate::estimate(b"\x01", b""));
     show::estimated(task_estimate::estimate(p, b"\x00\x00"));
     show::estimated(task_estimate::estimate(p, b"\x02"));
     // Sixteen variables rise from 0 to 5 together: at 65,535 to 1, and then at 15 a time, so that each value costs sixteen times the one before and 15. The

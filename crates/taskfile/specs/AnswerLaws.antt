@@ -17,12 +17,14 @@ use Rattle.facts.specs.PartialReadLaws.{partial-read}
 use Rattle.facts.specs.HeadLaws.{head-read}
 use Rattle.taskfile.specs.Task.{Action, Task, Walk, maxList, walk, cost, taskSum, taskPassed, both, taskRun, maxVariables, maxActions, maxValues}
 use Rattle.taskfile.specs.TaskFile.{readTask, checkTask, actionOf, askTask, costTask, runTask, sumTask}
-use Rattle.taskfile.specs.TaskReadLaws.{task-read, task-limits}
+use Rattle.taskfile.specs.TaskReadLaws.{task-limits}
+use Rattle.taskfile.specs.BlankLaws.{head-stands}
 use Rattle.taskfile.specs.WalkInPlace.{walkAt, moveAt, passesAt, runList}
 use Rattle.taskfile.specs.WalkInPlaceLaws.{walk-in-place}
 use Rattle.taskfile.specs.MoveInPlaceLaws.{sum-in-place, passed-in-place}
 use Rattle.taskfile.specs.Row.{ownFrom}
-use Rattle.taskfile.specs.InPlace.{taskAt}
+use Rattle.taskfile.specs.Blank.{fileOf}
+use Rattle.taskfile.specs.InPlace.{counts, taskAt}
 use Rattle.taskfile.specs.Index.{Ready}
 use Rattle.taskfile.specs.Answers.{talliedAnswer, sumAnswer, passedAnswer}
 use Rattle.taskfile.specs.declared.Tallied.{Tallied}
@@ -65,14 +67,14 @@ module _ (f : List ℕ) {n count : ℕ} {row : List ℕ} (ready : Ready f n coun
   -- the task that is there
   pub record There : Type 0 where
     pub task : Task
-    pub reads : readTask f ≡ accepted task
+    pub reads : readTask (fileOf f) ≡ accepted task
     pub variables : length (task .sizes) ≡ n
     pub actions : length (task .actions) ≡ count
 
   pub there : There
   unfolding taskAt
   there =
-      let m = made (λ (t : Task). (length (t .sizes), length (t .actions))) (readTask f) (ready .counts) in
+      let m = made counts (readTask (fileOf f)) (ready .counts) in
       record { task = m .from; reads = m .answer; variables = ap (λ (p : ℕ × ℕ). p .0) (m .value); actions = ap (λ (p : ℕ × ℕ). p .1) (m .value) }
 
   abbrev t : Task
@@ -89,13 +91,13 @@ module _ (f : List ℕ) {n count : ℕ} {row : List ℕ} (ready : Ready f n coun
 
   pub starts : Starts
   starts =
-      let l = task-read f (there .reads) in
-      let r = head-read f maxVariables maxValues (l .head-is) in
+      let l = head-stands f (ready .some-byte) (there .reads) in
+      let r = head-read f maxVariables maxValues (l .1) in
       let g = partial-read f (t .sizes) (1 + 2 * length (t .sizes)) (r .goal) in
       let n = there .variables in
       record {
         variables = omega (arith, r .wf .variables, n);
-        actions = omega (arith, task-limits f (there .reads) .actions, there .actions);
+        actions = omega (arith, task-limits _ (there .reads) .actions, there .actions);
         fits = omega (arith, g .next, g .fits, n);
         sizes = ap (λ (k : ℕ). take k (drop 1 f)) (sym n) ∙ sym (r .sizes);
         init = ap (λ (k : ℕ). take k (drop (1 + k) f)) (sym n) ∙ sym (r .init);
@@ -113,7 +115,7 @@ module _ (f : List ℕ) {n count : ℕ} {row : List ℕ} (ready : Ready f n coun
   action-missing a l = rw (look-none (t .actions) a (omega (arith, there .actions)), actionOf)
 
   module _ {A : Type 0} (checked : List ℕ → List ℕ → Read (Unit {0})) (answer : Action → List ℕ → A) (a : ℕ) (s : List ℕ) where
-    pub ask-missing : count ≤ a → askTask checked answer f a s ≡ refused 11 0
+    pub ask-missing : count ≤ a → askTask checked answer (fileOf f) a s ≡ refused 11 0
     unfolding askTask
     ask-missing l = rw (there .reads) (ap (λ (r : Read Action). _>>=_ r (λ x. _>>=_ (checked (t .sizes) s) (λ u. accepted (answer x s)))) (action-missing a l))
 
@@ -131,13 +133,13 @@ module _ (f : List ℕ) {n count : ℕ} {row : List ℕ} (ready : Ready f n coun
       x-is = action-there x-there
 
       module _ {k : ℕ} (e : k ≡ n) where
-        pub ask-state : {n p : ℕ} → checked (take k (drop 1 f)) s ≡ refused n p → askTask checked answer f a s ≡ refused n p
+        pub ask-state : {n p : ℕ} → checked (take k (drop 1 f)) s ≡ refused n p → askTask checked answer (fileOf f) a s ≡ refused n p
         unfolding askTask
         ask-state h = rw (there .reads, x-is, ap (λ (ds : List ℕ). checked ds s) (sym (sizes-there e)) ∙ h)
 
         -- the answer is what it is for the action that is there
         pub ask-is : {u : Unit {0}} {c : A} → checked (take k (drop 1 f)) s ≡ accepted u
-            → ((x : Action) → At (t .actions) a x → checked (t .sizes) s ≡ accepted u → c ≡ answer x s) → askTask checked answer f a s ≡ accepted c
+            → ((x : Action) → At (t .actions) a x → checked (t .sizes) s ≡ accepted u → c ≡ answer x s) → askTask checked answer (fileOf f) a s ≡ accepted c
         unfolding askTask
         ask-is {u} h is =
             let ok : checked (t .sizes) s ≡ accepted u = ap (λ (ds : List ℕ). checked ds s) (sym (sizes-there e)) ∙ h in
@@ -154,14 +156,14 @@ module _ (f : List ℕ) {n count : ℕ} {row : List ℕ} (ready : Ready f n coun
   inPlace move list = runList count move (partialAt f (1 + 2 * n)) list (take n (drop (1 + n) f))
 
   module _ (list : List ℕ) where
-    pub sum-is : sumTask f list ≡ inPlace (moveAt f row) list
+    pub sum-is : sumTask (fileOf f) list ≡ inPlace (moveAt f row) list
     unfolding sumTask runList
     sum-is =
         rw (there .reads)
         (ap (λ (sum : Read ℕ). _>>=_ (atMost maxList list) (λ u. sum)) (sym (sum-in-place f (there .reads) (ready .located) (sym (there .actions)) (1 + 2 * n) list (take n (drop (1 + n) f)) (starts .init) (starts .goal))))
 
     -- the sum, and the nodes passed
-    pub run-is : runTask f list ≡ both (inPlace (moveAt f row) list) (inPlace (passesAt f row) list)
+    pub run-is : runTask (fileOf f) list ≡ both (inPlace (moveAt f row) list) (inPlace (passesAt f row) list)
     unfolding runTask taskRun runList
     run-is =
         let init = take n (drop (1 + n) f) in

@@ -10,7 +10,7 @@ use Rattle.facts.specs.State.{checkState}
 use Rattle.facts.specs.Run.{runFrom, atMost}
 use Rattle.facts.specs.Fields.{readNumber, field, readCount, readValue, readMap, readWeight, readValues, readPartial, readOperator, readSizes, readHead, readEnd}
 use Rattle.taskfile.specs.Task.{Edge, Action, Task, walkFrom, walk, actionMove, actionPasses, taskSum, taskPassed, taskRun}
-use Rattle.taskfile.specs.TaskFile.{readVariable, readTarget, readEdge, readEdges, readNode, readNodes, readDiagram, readAction, readActions, readTask, checkTask, actionOf, askTask, costTask, runTask}
+use Rattle.taskfile.specs.TaskFile.{readVariable, readTarget, readEdge, readEdges, readNode, readNodes, readDiagram, readAction, readActions, readBytes, readTask, checkTask, actionOf, askTask, costTask, runTask}
 
 -- ---- what an example opens: all definitions that lead from the bytes of a file to an answer
 
@@ -19,7 +19,7 @@ unfolding numberAt readNumber field readCount readValue readMap readWeight readV
 fields = tt
 
 reading : Unit {0}
-unfolding fields readVariable readTarget readEdge readEdges readNode readNodes readDiagram readAction readActions readTask
+unfolding fields readVariable readTarget readEdge readEdges readNode readNodes readDiagram readAction readActions readBytes readTask
 reading = tt
 
 running : Unit {0}
@@ -66,9 +66,9 @@ P-read = refl
 
 -- ---- the table: refusals 1 to 6, of files
 
-pub zero-bytes : checkTask [] ≡ refused 1 0
+pub lone-byte-01 : checkTask (1 ∷ []) ≡ refused 1 1
 unfolding answering
-zero-bytes = refl
+lone-byte-01 = refl
 
 pub P-and-a-byte : (byte : ℕ) → checkTask (P-bytes ++ (byte ∷ [])) ≡ refused 2 40
 unfolding answering
@@ -126,7 +126,7 @@ cost-0 : costTask P-bytes 0 (0 ∷ []) ≡ accepted (record { cost = 8; passed =
 unfolding answering
 cost-0 = refl
 
-cost-of-no-task : costTask [] 1 (0 ∷ 0 ∷ []) ≡ refused 1 0
+cost-of-no-task : costTask (1 ∷ []) 1 (0 ∷ 0 ∷ []) ≡ refused 1 1
 unfolding answering
 cost-of-no-task = refl
 

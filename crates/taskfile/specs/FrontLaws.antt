@@ -3,7 +3,7 @@ use mathlib.Core.Path.{_≡_, refl}
 use Prim.Native.Nat.{ℕ, zero, suc, _+_, _*_, _-_, _≤_}
 use native.Mathlib.Omega.{arith}
 use mathlib.Core.Bool.{_&&_}
-use mathlib.Core.List.{List}
+use mathlib.Core.List.{List, [], _∷_}
 use lib.Dec.{leb, ltb}
 use lib.ListN.{length, getD, take}
 use Rattle.facts.specs.Lists.{upFrom}
@@ -13,7 +13,7 @@ use Rattle.facts.specs.FieldLaws.{count-read}
 use Rattle.facts.specs.HeadLaws.{head-read}
 use Rattle.facts.specs.FrontLaws.{then-same, field-same, each-same, count-same, weight-same, head-same, operator-same, number-front, end-front}
 use Rattle.taskfile.specs.Task.{maxVariables, maxValues, maxActions, maxNodes, maxBytes}
-use Rattle.taskfile.specs.TaskFile.{edgeBytes, readVariable, readTarget, readEdge, readEdges, readNode, readNodes, readDiagram, readAction, readActions, readTask}
+use Rattle.taskfile.specs.TaskFile.{edgeBytes, readVariable, readTarget, readEdge, readEdges, readNode, readNodes, readDiagram, readAction, readActions, readBytes, readTask}
 use Rattle.taskfile.specs.DiagramReadLaws.{Small, small-at, nodeMost, variable-read, target-read, edge-read, node-most}
 use Rattle.taskfile.specs.TaskReadLaws.{actionMost, operator-most, head-most, action-read, action-nodes, action-most, actions-read}
 
@@ -64,9 +64,9 @@ module _ (f g : List ℕ) (b : ℕ) (same : (k at : ℕ) → at + k ≤ b → re
         let r = action-read f sizes left at h in
         then-same _ _ (actions-same count (left - length (p .0 .nodes)) (p .1) (omega (arith, action-nodes f r, action-most f r few small))) (λ q e. refl))
 
-  task-same : maxBytes ≤ b → ((at : ℕ) → at ≤ maxBytes → readEnd g at ≡ readEnd f at) → readTask g ≡ readTask f
-  unfolding readTask
-  task-same l end =
+  bytes-same : maxBytes ≤ b → ((at : ℕ) → at ≤ maxBytes → readEnd g at ≡ readEnd f at) → readBytes g ≡ readBytes f
+  unfolding readBytes
+  bytes-same l end =
       then-same _ _ (head-same f g b same maxVariables maxValues (omega arith)) (λ p h.
       let head = head-read f maxVariables maxValues h .wf in
       let a = head-most f h in
@@ -77,4 +77,8 @@ module _ (f g : List ℕ) (b : ℕ) (same : (k at : ℕ) → at + k ≤ b → re
 
 -- one byte more than the longest task has is enough to answer for the whole file
 pub front-enough : (f : List ℕ) → readTask (take (suc maxBytes) f) ≡ readTask f
-front-enough f = task-same f (take (suc maxBytes) f) (suc maxBytes) (number-front f (suc maxBytes)) (omega arith) (λ at l. end-front f (suc maxBytes) at (omega arith))
+unfolding readTask
+front-enough [] = refl
+front-enough (byte ∷ rest) =
+    let f = byte ∷ rest in
+    bytes-same f (take (suc maxBytes) f) (suc maxBytes) (number-front f (suc maxBytes)) (omega arith) (λ at l. end-front f (suc maxBytes) at (omega arith))

@@ -11,6 +11,7 @@ use Rattle.facts.specs.Fields.{each, nextOf}
 use Rattle.taskfile.specs.Task.{Node, Action, Task, maxNodes}
 use Rattle.taskfile.specs.TaskFile.{edgeBytes, readNode, readNodes, readDiagram, readAction, readActions, readTask}
 use Rattle.taskfile.specs.Row.{effectsFrom, incomingFrom, firstsFrom, ownFrom}
+use Rattle.taskfile.specs.Blank.{fileOf}
 use Rattle.taskfile.specs.WalkInPlace.{incomingPlace}
 use Rattle.taskfile.specs.PartsInPlace.{Tested}
 
@@ -108,11 +109,15 @@ pub record Listed (f sizes : List ℕ) (count from : ℕ) (row : List ℕ) : Typ
 
 -- ---- a whole file
 
--- how many variables and how many actions the file has
-unfoldable pub taskAt : List ℕ → Read (ℕ × ℕ)
-taskAt f = withValue (λ t. (length (t .sizes), length (t .actions))) (readTask f)
+-- how many variables and how many actions a task has
+abbrev pub counts : Task → ℕ × ℕ
+counts t = (length (t .sizes), length (t .actions))
 
--- the offset of each action of an accepted file, the number of its first node among all nodes, and the offset and the variable of each node
+-- those of the file's
+unfoldable pub taskAt : List ℕ → Read (ℕ × ℕ)
+taskAt f = withValue counts (readTask f)
+
+-- the offset of each action of the task in these bytes, the number of its first node among all nodes, and the offset and the variable of each node
 pub record Located (f row : List ℕ) : Type 0 where
-  pub lies : (t : Task) → readTask f ≡ accepted t → (a : ℕ) (x : Action) → At (t .actions) a x → Lies f (t .sizes) x (getD row a 0) (ownFrom row a) row
-  pub first-is : (t : Task) → readTask f ≡ accepted t → (a : ℕ) (x : Action) → At (t .actions) a x → getD row (firstsFrom + a) 0 ≡ nodesBefore (t .actions) a
+  pub lies : (t : Task) → readTask (fileOf f) ≡ accepted t → (a : ℕ) (x : Action) → At (t .actions) a x → Lies f (t .sizes) x (getD row a 0) (ownFrom row a) row
+  pub first-is : (t : Task) → readTask (fileOf f) ≡ accepted t → (a : ℕ) (x : Action) → At (t .actions) a x → getD row (firstsFrom + a) 0 ≡ nodesBefore (t .actions) a

@@ -6,11 +6,13 @@ use lib.Dec.{leb}
 use lib.ListN.{length}
 use Rattle.facts.specs.Read.{Read, accepted, check, _>>=_}
 use Rattle.taskfile.specs.Row.{rowLong}
+use Rattle.taskfile.specs.Blank.{fileOf}
 use Rattle.taskfile.specs.InPlace.{Fronts, taskAt, Located}
 
--- the row has the index of an accepted file with so many variables and actions
+-- the row has the index of the accepted file whose task is in these bytes, with so many variables and actions
 pub record Ready (f : List ℕ) (variables actions : ℕ) (row : List ℕ) : Type 0 where
-  pub counts : taskAt f ≡ accepted (variables, actions)
+  pub some-byte : 1 ≤ length f
+  pub counts : taskAt (fileOf f) ≡ accepted (variables, actions)
   pub located : Located f row
   pub fronts : Fronts f actions row
   pub long : rowLong ≤ length row

@@ -3,6 +3,7 @@ pub mod Task
 pub mod TaskFile
 pub mod Answers
 pub mod Row
+pub mod Blank
 pub mod WalkInPlace
 pub mod PartsInPlace
 pub mod InPlace
@@ -11,6 +12,7 @@ pub mod Index
 pub mod WalkLaws
 pub mod DiagramReadLaws
 pub mod TaskReadLaws
+pub mod BlankLaws
 pub mod TaskLaws
 pub mod FrontLaws
 pub mod NotedLaws

@@ -19,6 +19,7 @@ use Rattle.facts.specs.RunLaws.{attempt-length, run-missing, run-blocked, run-n
 use Rattle.taskfile.specs.Task.{Action, Task, Walk, maxList, walk, actionMove, actionPasses, taskSum, taskPassed}
 use Rattle.taskfile.specs.TaskFile.{readTask}
 use Rattle.taskfile.specs.Row.{ownFrom}
+use Rattle.taskfile.specs.Blank.{fileOf}
 use Rattle.taskfile.specs.InPlace.{Located}
 use Rattle.taskfile.specs.TaskReadLaws.{task-wf}
 use Rattle.taskfile.specs.TaskLaws.{move-at, passes-at, attempt-inside}
@@ -98,7 +99,7 @@ module _ {count : ℕ} {move : ℕ → List ℕ → Move} {goal : Partial} {list
 
 -- ---- an accepted file
 
-module _ (f : List ℕ) {t : Task} (r : readTask f ≡ accepted t) {row : List ℕ} (loc : Located f row) {count : ℕ} (all : count ≡ length (t .actions)) where
+module _ (f : List ℕ) {t : Task} (r : readTask (fileOf f) ≡ accepted t) {row : List ℕ} (loc : Located f row) {count : ℕ} (all : count ≡ length (t .actions)) where
   abbrev nothing : Action
   nothing = record { pre = record { map = 0; values = [] }; eff = record { map = 0; values = [] }; incoming = 0; nodes = [] }
 
@@ -118,8 +119,8 @@ module _ (f : List ℕ) {t : Task} (r : readTask f ≡ accepted t) {row : List �
         rw (i, g)
         (run-same (count) (moveBy measure f row) move (t .goal) (Inside (t .sizes))
         (λ a s l i. move-in-place a s l i ∙ sym (does a (getD (t .actions) a nothing) s (at-action a l)))
-        (λ a s e c l i h. attempt-inside (task-wf f r .actions (at-action a l)) s i (measure (walk (getD (t .actions) a nothing) s)) (sym (move-in-place a s l i) ∙ h))
-        list (t .init) 0 0 (task-wf f r .init))
+        (λ a s e c l i h. attempt-inside (task-wf _ r .actions (at-action a l)) s i (measure (walk (getD (t .actions) a nothing) s)) (sym (move-in-place a s l i) ∙ h))
+        list (t .init) 0 0 (task-wf _ r .init))
         ∙ ap (λ (n : ℕ). runFrom n move (t .goal) 0 0 list (t .init)) all
 
   -- a run by the offsets is one of the actions that were read, in its sum and in the nodes passed

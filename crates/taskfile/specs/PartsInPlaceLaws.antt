@@ -23,7 +23,9 @@ use Rattle.taskfile.specs.WalkInPlace.{incomingPlace, nodeCount}
 use Rattle.taskfile.specs.PartsInPlace.{edgeIn, edgesIn, nodeIn, nodesIn, actionIn, actionsIn, Stands, Stood}
 use Rattle.taskfile.specs.DiagramReadLaws.{Edge-read, Node-read, node-read, node-edge, node-tests}
 use Rattle.taskfile.specs.WalkInPlaceLaws.{pre-lies, eff-lies, incoming-lies, count-is}
-use Rattle.taskfile.specs.TaskReadLaws.{task-read, task-limits}
+use Rattle.taskfile.specs.TaskReadLaws.{task-limits}
+use Rattle.taskfile.specs.BlankLaws.{head-stands}
+use Rattle.taskfile.specs.Blank.{fileOf}
 use Rattle.taskfile.specs.AnswerLaws.{there as task-there}
 
 -- ---- rows of parts: each part where it stands
@@ -135,14 +137,14 @@ module _ (f : List ℕ) {n k : ℕ} {row : List ℕ} (ready : Ready f n k row) w
   abbrev t : Task
   t = task-there f ready .task
 
-  pub reads : readTask f ≡ accepted t
+  pub reads : readTask (fileOf f) ≡ accepted t
   reads = task-there f ready .reads
 
   -- Each action stands at its offset.
   pub actions-stood : {sizes : List ℕ} → sizes ≡ t .sizes → (a : ℕ) → a < k → Stood f sizes (getD row a 0) (drop (ownFrom row a) row)
   actions-stood e a h =
       let x = at-some (t .actions) a (omega (arith, task-there f ready .actions)) in
-      rw e (stood f (ready .located .lies t reads a (x .0) (x .1)) (omega (arith, total-at (λ x. length (x .nodes)) (x .1), task-limits f reads .nodes)))
+      rw e (stood f (ready .located .lies t reads a (x .0) (x .1)) (omega (arith, total-at (λ x. length (x .nodes)) (x .1), task-limits _ reads .nodes)))
 
   -- The actions in place are the task's.
   pub actions-in-place : actionsIn f (t .sizes) row 0 k ≡ t .actions
@@ -155,5 +157,5 @@ module _ (f : List ℕ) {n k : ℕ} {row : List ℕ} (ready : Ready f n k row) w
   -- The goal stands in the file.
   pub goal-stands : Stands f (n) (1 + 2 * n)
   goal-stands =
-      let g = head-read f maxVariables maxValues (task-read f reads .head-is) .goal in
+      let g = head-read f maxVariables maxValues (head-stands f (ready .some-byte) reads .1) .goal in
       subst (λ (n : ℕ). Stands f n (1 + 2 * n)) (task-there f ready .variables) (stands (partial-read f (t .sizes) (1 + 2 * length (t .sizes)) g))

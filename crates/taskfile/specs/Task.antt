@@ -198,7 +198,6 @@ pub record Limits (t : Task) : Type 0 where
   pub some-variable : 1 ≤ length (t .sizes)
   pub variables : length (t .sizes) ≤ maxVariables
   pub sizes : All (λ d. (2 ≤ d) × (d ≤ maxValues)) (t .sizes)
-  pub some-action : 1 ≤ length (t .actions)
   pub actions : length (t .actions) ≤ maxActions
   pub nodes : total (λ x. length (x .nodes)) (t .actions) ≤ maxNodes
 

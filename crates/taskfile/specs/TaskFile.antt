@@ -7,6 +7,7 @@ use lib.Dec.{leb, ltb}
 use lib.ListN.{length, getD, getElem?}
 use Rattle.facts.specs.Read.{Read, accepted, refused, check, withValue, _>>=_}
 use Rattle.facts.specs.Lists.{upFrom}
+use Rattle.facts.specs.Partial.{empty}
 use Rattle.facts.specs.Fields.{each, field, readCount, readWeight, readOperator, readHead, readEnd}
 use Rattle.facts.specs.State.{checkState}
 use Rattle.facts.specs.Run.{atMost}
@@ -95,14 +96,23 @@ module _ (f : List ℕ) where
     (xs, at) ← readActions sizes count (left - length (x .nodes)) at
     accepted (x ∷ xs, at)
 
-  -- the task of the file, or the file's first refusal
-  unfoldable pub readTask : Read Task
-  readTask = do
+  -- the task of a file that has any bytes, or its first refusal
+  unfoldable pub readBytes : Read Task
+  readBytes = do
     (head, at) ← readHead f maxVariables maxValues
     (count, at) ← readCount f 1 maxActions at
     (actions, at) ← readActions (head .sizes) count maxNodes at
     _ ← readEnd f at
     accepted (record { sizes = head .sizes; init = head .init; goal = head .goal; actions = actions })
+
+-- The blank task, the only one without actions. Document 02, W1: "one variable of 2 values at 0, an empty goal, no actions".
+abbrev pub blank : Task
+blank = record { sizes = 2 ∷ []; init = 0 ∷ []; goal = empty; actions = [] }
+
+-- The task of a file, or the file's first refusal. Document 02, W1: "A task file of zero bytes shall now mean the blank task".
+unfoldable pub readTask : List ℕ → Read Task
+readTask [] = accepted blank
+readTask (byte ∷ rest) = readBytes (byte ∷ rest)
 
 -- ---- the operations
 

@@ -1,23 +1,24 @@
 -- Laws of reading a task file: an accepted file's task is well-formed and inside the limits, and the file has at most 3,826 bytes.
-use mathlib.Core.Path.{_≡_, sym, ap, ap₂, _∙_, subst}
+use mathlib.Core.Path.{_≡_, refl, sym, ap, ap₂, _∙_, subst}
 use Prim.Native.Nat.{ℕ, zero, suc, _+_, _*_, _-_, _≤_}
 use native.Mathlib.Omega.{arith}
-use mathlib.Core.List.{List, _∷_}
+use mathlib.Core.List.{List, [], _∷_}
 use lib.ListN.{length}
 use Rattle.facts.specs.Read.{accepted}
 use Rattle.facts.specs.ReadLaws.{through, value-of, next-of, carried}
 use Rattle.facts.specs.Lists.{total, At, here, there}
 use Rattle.facts.specs.ListLaws.{at-none}
-use Rattle.facts.specs.Bytes.{Bytes}
+use Rattle.facts.specs.Bytes.{Bytes, numberAt}
 use Rattle.facts.specs.BytesLaws.{two-below}
 use Rattle.facts.specs.WellFormed.{WfHead}
-use Rattle.facts.specs.Fields.{Head, Operator, readCount, readOperator, readHead, readEnd}
+use Rattle.facts.specs.Fields.{Head, Operator, readNumber, field, readCount, readValue, readMap, readValues, readPartial, readOperator, readSizes, readHead, readEnd}
 use Rattle.facts.specs.OperatorLaws.{Operator-read, operator-read}
 use Rattle.facts.specs.FieldLaws.{count-read, end-read}
 use Rattle.facts.specs.HeadLaws.{head-read}
 use Rattle.facts.specs.FrontLaws.{operator-reach, head-reach}
 use Rattle.taskfile.specs.Task.{Action, Task, maxVariables, maxValues, maxActions, maxNodes, maxBytes, WfAction, WfTask, Limits, Weights}
-use Rattle.taskfile.specs.TaskFile.{readDiagram, readAction, readActions, readTask}
+use Rattle.taskfile.specs.TaskFile.{readDiagram, readAction, readActions, readBytes, blank, readTask}
+use Rattle.taskfile.specs.Blank.{blankHead}
 use Rattle.taskfile.specs.DiagramReadLaws.{Small, nodeMost, Diagram-read, diagram-read, diagram-wf, diagram-weights, diagram-most}
 
 -- the most bytes that a partial state has, and an action without its nodes: two of these, the incoming weight and the node count
@@ -138,8 +139,8 @@ module _ (f : List ℕ) where
     pub actions-are : readActions f (t .sizes) (length (t .actions)) maxNodes (at + 1) ≡ accepted (t .actions, end)
     pub end-is : readEnd f end ≡ accepted tt
 
-  pub task-read : {t : Task} → readTask f ≡ accepted t → Task-read t
-  unfolding readTask
+  pub task-read : {t : Task} → readBytes f ≡ accepted t → Task-read t
+  unfolding readBytes
   task-read {t} h =
       let a = through (readHead f maxVariables maxValues) h in
       let sizes = a .got .0 .sizes in
@@ -158,7 +159,7 @@ module _ (f : List ℕ) where
         end-is = d .first;
       })
 
-  module _ {t : Task} (h : readTask f ≡ accepted t) where
+  module _ {t : Task} (h : readBytes f ≡ accepted t) where
     r : Task-read t
     r = task-read h
 
@@ -171,16 +172,49 @@ module _ (f : List ℕ) where
     lies : {a : ℕ} {x : Action} → At (t .actions) a x → (room o end : ℕ) × Action-read (t .sizes) room o x end
     lies a = action-lies (t .sizes) (length (t .actions)) maxNodes (r .at + 1) (r .actions-are) a
 
-    pub task-wf : WfTask t
-    task-wf = record { init = head .init; goal = head .goal; actions = λ a. action-wf (lies a .3) }
+    bytes-wf : WfTask t
+    bytes-wf = record { init = head .init; goal = head .goal; actions = λ a. action-wf (lies a .3) }
 
-    pub task-limits : Limits t
-    task-limits =
+    bytes-limits : Limits t
+    bytes-limits =
         let n = count-read f 1 maxActions (r .at) (r .count-is) in
-        record { some-variable = head .some-variable; variables = head .variables; sizes = head .sizes; some-action = n .least; actions = n .most; nodes = actions .nodes }
+        record { some-variable = head .some-variable; variables = head .variables; sizes = head .sizes; actions = n .most; nodes = actions .nodes }
 
-    pub task-weights : Bytes f → {a : ℕ} {x : Action} → At (t .actions) a x → Weights x
-    task-weights bytes a = action-weights (lies a .3) bytes
+    -- a task that is read of bytes has an action
+    pub some-action : 1 ≤ length (t .actions)
+    some-action = count-read f 1 maxActions (r .at) (r .count-is) .least
 
-    pub task-length : length f ≤ maxBytes
-    task-length = omega (arith, end-read f (r .end) (r .end-is), actions .most, count-read f 1 maxActions (r .at) (r .count-is) .most, head-most (r .head-is))
+    bytes-weights : Bytes f → {a : ℕ} {x : Action} → At (t .actions) a x → Weights x
+    bytes-weights bytes a = action-weights (lies a .3) bytes
+
+    bytes-length : length f ≤ maxBytes
+    bytes-length = omega (arith, end-read f (r .end) (r .end-is), actions .most, count-read f 1 maxActions (r .at) (r .count-is) .most, head-most (r .head-is))
+
+-- ---- the file that has no bytes
+
+-- its task's head, as it would stand in a file
+pub blank-head : readHead blankHead maxVariables maxValues ≡ accepted (headOf blank, 11)
+unfolding numberAt readNumber field readCount readValue readMap readValues readPartial readSizes readHead
+blank-head = refl
+
+blank-wf : WfHead maxVariables maxValues (headOf blank)
+blank-wf = head-read blankHead maxVariables maxValues blank-head .wf
+
+-- what every task has that is read of bytes, and the blank one too, every task of a file has
+module _ (P : List ℕ → Task → Type 0) (of-bytes : (f : List ℕ) (t : Task) → readBytes f ≡ accepted t → P f t) (of-none : P [] blank) where
+  each-task : (f : List ℕ) {t : Task} → readTask f ≡ accepted t → P f t
+  unfolding readTask
+  each-task [] h = subst (P []) (cc h) of-none
+  each-task (byte ∷ rest) {t} h = of-bytes (byte ∷ rest) t h
+
+pub task-wf : (f : List ℕ) {t : Task} → readTask f ≡ accepted t → WfTask t
+task-wf = each-task (λ f t. WfTask t) (λ f t h. bytes-wf f h) (record { init = blank-wf .init; goal = blank-wf .goal; actions = λ a. absurd (at-none a) })
+
+pub task-limits : (f : List ℕ) {t : Task} → readTask f ≡ accepted t → Limits t
+task-limits = each-task (λ f t. Limits t) (λ f t h. bytes-limits f h) (record { some-variable = omega arith; variables = omega arith; sizes = blank-wf .sizes; actions = omega arith; nodes = omega arith })
+
+pub task-weights : (f : List ℕ) {t : Task} → readTask f ≡ accepted t → Bytes f → {a : ℕ} {x : Action} → At (t .actions) a x → Weights x
+task-weights f h bytes {a} {x} = each-task (λ f t. Bytes f → At (t .actions) a x → Weights x) (λ f t h bytes i. bytes-weights f h bytes i) (λ bytes i. absurd (at-none i)) f h bytes
+
+pub task-length : (f : List ℕ) {t : Task} → readTask f ≡ accepted t → length f ≤ maxBytes
+task-length = each-task (λ f t. length f ≤ maxBytes) (λ f t h. bytes-length f h) (omega arith)

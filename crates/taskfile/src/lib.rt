@@ -29,6 +29,9 @@ impl Task {
         + Task::MAX_ACTIONS * (2 * Task::PARTIAL_BYTES + 3)
         + Task::MAX_NODES * (1 + Task::MAX_VALUES * Task::EDGE_BYTES);
 
+    // The head of the blank task as it would stand in a file: one variable, its size, its value, and the map of an empty goal. An empty file has the blank task, and code finds it here.
+    pub const BLANK: [u8; 11] = [1, 2, 0, 0, 0, 0, 0, 0, 0, 0, 0];
+
     // In the written file: semaphore and markers; the most bytes of a file, which are those of its head, of starts and ends, and of edges; and the most entries of an action in a probe list: its start, an edge for each variable, its end.
     pub const MAX_MARKERS: usize = 1 + Task::MAX_ACTIONS;
 

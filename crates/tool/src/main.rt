@@ -41,6 +41,10 @@ fn on_file(asked: Asked, file: &[u8]) {
         if is_accepted(probe::check(file), asked) {
             return on_probe(asked, file);
         }
+        // an empty file is a task's, and no word of that helps with an empty probe file
+        if file.len() == 0 {
+            return;
+        }
         return other_kind(asked, task::check(file));
     }
     if is_accepted(task::check(file), asked) {

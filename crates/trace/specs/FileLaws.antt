@@ -11,6 +11,7 @@ use Rattle.facts.specs.RunLaws.{list-long, list-fits}
 use Rattle.facts.specs.Bytes.{Bytes}
 use Rattle.taskfile.specs.Task.{Task, maxWritten}
 use Rattle.taskfile.specs.TaskFile.{readTask, checkTask}
+use Rattle.taskfile.specs.Blank.{fileOf}
 use Rattle.taskfile.specs.Index.{Ready}
 use Rattle.taskfile.specs.AnswerLaws.{there}
 use Rattle.probefile.specs.Probe.{Probe, maxList}
@@ -55,12 +56,12 @@ module _ (states : Bool) (f list : List ℕ) where
   -- the task of an accepted file with this index
   module _ {n count : ℕ} {row : List ℕ} (ready : Ready f n count row) where
     -- The list is over its limit.
-    pub trace-long : maxList < length list → traced states f list ≡ refused 8 maxList
+    pub trace-long : maxList < length list → traced states (fileOf f) list ≡ refused 8 maxList
     unfolding traced
     trace-long l = rw (there f ready .reads, list-long maxList list l)
 
     -- An entry is no step.
-    pub trace-missing : length list ≤ maxList → {names : List Named} → names ≡ namesOf (there f ready .task) → {n p : ℕ} → checkSteps names 0 list ≡ refused n p → traced states f list ≡ refused n p
+    pub trace-missing : length list ≤ maxList → {names : List Named} → names ≡ namesOf (there f ready .task) → {n p : ℕ} → checkSteps names 0 list ≡ refused n p → traced states (fileOf f) list ≡ refused n p
     unfolding traced
     trace-missing l same h = rw (there f ready .reads, list-fits maxList list l, ← same, h)
 

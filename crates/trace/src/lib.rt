@@ -5,6 +5,7 @@ mod lines;
 use compilation::Compiled;
 use facts::Checked;
 use facts::Refusal;
+use index::bytes_of;
 use probefile::Indexed;
 use probefile::Probe;
 use taskfile::Counted;
@@ -15,6 +16,7 @@ ghost use Prim.Native.Nat.{_+_, _*_, _≤_};
 ghost use lib.ListN.{length, take, drop};
 ghost use Rattle.facts.specs.Read.{accepted};
 ghost use Rattle.facts.specs.Write.{lengthIn, writtenIn};
+ghost use Rattle.taskfile.specs.Blank.{fileOf};
 ghost use Rattle.taskfile.specs.Index.{Ready};
 ghost use Rattle.probefile.specs.Probe.{maxVariables, maxList};
 ghost use Rattle.text.specs.Append.{largest};
@@ -35,12 +37,20 @@ pub fn trace(file: &[u8], list: &[u16], states: bool, out: &mut [u8]) -> Describ
     match index::index_in(file, &mut row) {
         Counted::Refused(why) => Described::Refused(why),
         Counted::Actions(variables, actions) => {
-            trace_in(file, variables, actions, &row, list, states, out)
+            trace_in(
+                bytes_of(file, &Task::BLANK),
+                variables,
+                actions,
+                &row,
+                list,
+                states,
+                out,
+            )
         }
     }
 }
 
-// The same, of a file that is accepted: the list is checked.
+// The same, of an accepted file by the bytes in which its task is found: the list is checked.
 fn trace_in(
     file: &[u8],
     variables: usize,
@@ -51,8 +61,8 @@ fn trace_in(
     out: &mut [u8],
 ) -> Described
     requires { ⌜ Ready (now file) variables actions (now row) ⌝ }
-    ensures { λ r. ⌜ describedAnswer r ≡ lengthIn (length (now (out .entry))) (traced states (now (file .entry)) (now (list .entry))) ⌝ }
-    ensures { λ r. ⌜ now (out .exit) ≡ writtenIn (now (out .entry)) (traced states (now (file .entry)) (now (list .entry))) ⌝ }
+    ensures { λ r. ⌜ describedAnswer r ≡ lengthIn (length (now (out .entry))) (traced states (fileOf (now (file .entry))) (now (list .entry))) ⌝ }
+    ensures { λ r. ⌜ now (out .exit) ≡ writtenIn (now (out .entry)) (traced states (fileOf (now (file .entry))) (now (list .entry))) ⌝ }
 {
     if Probe::MAX_LIST < list.len() {
         return Described::Refused(Refusal::Long(Probe::MAX_LIST));
@@ -61,13 +71,23 @@ fn trace_in(
     let sizes = &file[1..last];
     match steps::find::check_steps(file, sizes, actions, row, list) {
         Checked::Refused(why) => Described::Refused(why),
-        Checked::Accepted => trace_compiled(file, sizes, actions, row, list, states, out),
+        Checked::Accepted => trace_compiled(
+            file,
+            variables,
+            sizes,
+            actions,
+            row,
+            list,
+            states,
+            out,
+        ),
     }
 }
 
 // The same, of a list that is accepted: the task is compiled.
 fn trace_compiled(
     file: &[u8],
+    variables: usize,
     sizes: &[u8],
     actions: usize,
     row: &[usize],
@@ -75,12 +95,12 @@ fn trace_compiled(
     states: bool,
     out: &mut [u8],
 ) -> Described
-    requires { ⌜ Stated (now file) (now list) (namesIn (now file) (now sizes) actions (now row)) ⌝ }
-    ensures { λ r. ⌜ describedAnswer r ≡ lengthIn (length (now (out .entry))) (traced states (now (file .entry)) (now (list .entry))) ⌝ }
-    ensures { λ r. ⌜ now (out .exit) ≡ writtenIn (now (out .entry)) (traced states (now (file .entry)) (now (list .entry))) ⌝ }
+    requires { ⌜ Ready (now file) variables actions (now row) × Stated (fileOf (now file)) (now list) (namesIn (now file) (now sizes) actions (now row)) ⌝ }
+    ensures { λ r. ⌜ describedAnswer r ≡ lengthIn (length (now (out .entry))) (traced states (fileOf (now (file .entry))) (now (list .entry))) ⌝ }
+    ensures { λ r. ⌜ now (out .exit) ≡ writtenIn (now (out .entry)) (traced states (fileOf (now (file .entry))) (now (list .entry))) ⌝ }
 {
     let mut written = [0; Task::MAX_WRITTEN];
-    match compile::compile(file, &mut written) {
+    match compile::compile_in(file, variables, actions, row, &mut written) {
         Compiled::Refused(why) => Described::Refused(why),
         Compiled::Length(length) => {
             trace_written(
@@ -108,9 +128,9 @@ fn trace_written(
     states: bool,
     out: &mut [u8],
 ) -> Described
-    requires { ⌜ Stated (now file) (now list) (namesIn (now file) (now sizes) actions (now row)) × WrittenFrom (now file) (now probe) ⌝ }
-    ensures { λ r. ⌜ describedAnswer r ≡ lengthIn (length (now (out .entry))) (traced states (now (file .entry)) (now (list .entry))) ⌝ }
-    ensures { λ r. ⌜ now (out .exit) ≡ writtenIn (now (out .entry)) (traced states (now (file .entry)) (now (list .entry))) ⌝ }
+    requires { ⌜ Stated (fileOf (now file)) (now list) (namesIn (now file) (now sizes) actions (now row)) × WrittenFrom (fileOf (now file)) (now probe) ⌝ }
+    ensures { λ r. ⌜ describedAnswer r ≡ lengthIn (length (now (out .entry))) (traced states (fileOf (now (file .entry))) (now (list .entry))) ⌝ }
+    ensures { λ r. ⌜ now (out .exit) ≡ writtenIn (now (out .entry)) (traced states (fileOf (now (file .entry))) (now (list .entry))) ⌝ }
 {
     let mut offsets = [0; Probe::MAX_STEPS];
     match probefile::step_index::index(probe, &mut offsets) {

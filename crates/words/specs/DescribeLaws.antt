@@ -12,6 +12,7 @@ use Rattle.facts.specs.ListLaws.{look, look-none}
 use Rattle.facts.specs.Partial.{partialAt}
 use Rattle.taskfile.specs.Task.{Action, Task}
 use Rattle.taskfile.specs.TaskFile.{readTask, checkTask, actionOf}
+use Rattle.taskfile.specs.Blank.{fileOf}
 use Rattle.taskfile.specs.Index.{Ready}
 use Rattle.taskfile.specs.AnswerLaws.{there, starts, sizes-there}
 use Rattle.taskfile.specs.PartsInPlace.{actionsIn}
@@ -98,7 +99,7 @@ module _ (f : List ℕ) where
     showing-text = task-text sizes-in init-in
 
     -- The whole task.
-    pub shown-is : shown f ≡ accepted (showing f n count row)
+    pub shown-is : shown (fileOf f) ≡ accepted (showing f n count row)
     unfolding shown
     shown-is = rw (there f ready .reads) (ap accepted (sym showing-text))
 
@@ -107,7 +108,7 @@ module _ (f : List ℕ) where
     diagram a = dotAction a (actionFor f (take (1 + n - 1) (drop 1 f)) row a)
 
     -- All diagrams.
-    pub drawn-is : drawn f ≡ accepted (drawing f n row 0 count)
+    pub drawn-is : drawn (fileOf f) ≡ accepted (drawing f n row 0 count)
     unfolding drawn drawing
     drawn-is =
         let all : count - 0 ≡ count = omega arith in
@@ -115,12 +116,12 @@ module _ (f : List ℕ) where
 
     module _ (a : ℕ) where
       -- There is no such action.
-      pub action-missing : count ≤ a → drawnAction f a ≡ refused 11 0
+      pub action-missing : count ≤ a → drawnAction (fileOf f) a ≡ refused 11 0
       unfolding drawnAction actionOf
       action-missing l = rw (there f ready .reads, look-none (t .actions) a (omega (arith, there f ready .actions)), actionOf)
 
       -- The diagram of one action.
-      pub action-is : a < count → drawnAction f a ≡ accepted (drawing f n row a (a + 1))
+      pub action-is : a < count → drawnAction (fileOf f) a ≡ accepted (drawing f n row a (a + 1))
       unfolding drawnAction actionOf drawing
       action-is l =
           let x = at-some (t .actions) a (omega (arith, there f ready .actions)) in

@@ -1,15 +1,17 @@
--- Task P of document 01 and a task of two variables and two actions in words, and their cost diagrams.
+-- Task P of document 01 and a task of two variables and two actions in words, and their cost diagrams; and the blank task of document 02.
 use mathlib.Core.Path.{_≡_, refl}
 use mathlib.Core.List.{List, [], _∷_, _++_}
 use Rattle.facts.specs.Read.{accepted, refused}
 use Rattle.facts.specs.Write.{over, fitting, lengthIn, writtenIn}
 use Rattle.taskfile.specs.Task.{Edge, Task}
+use Rattle.taskfile.specs.TaskFile.{readTask}
 use Rattle.compilation.specs.Compile.{flat}
 use Rattle.text.specs.Text.{decimal}
 use Rattle.text.specs.Append.{bytes}
 use Rattle.words.specs.Words.{partialText}
 use Rattle.words.specs.Show.{targetText, taskText}
 use Rattle.words.specs.Dot.{dotEdge, dotText}
+use Rattle.words.specs.DescribeFile.{shown, drawn}
 
 -- task P
 abbrev pub taskP : Task
@@ -88,3 +90,13 @@ not-cut = refl
 at-the-front : writtenIn (9 ∷ 9 ∷ 9 ∷ 9 ∷ 9 ∷ []) (accepted (bytes "text")) ≡ bytes "text" ++ (9 ∷ [])
 unfolding writtenIn over fitting
 at-the-front = refl
+
+-- ---- the blank task, which has no actions
+
+blank-in-words : shown [] ≡ accepted (bytes "variable 0: 2 values, starts at 0\ngoal: none\n")
+unfolding shown readTask taskText partialText decimal
+blank-in-words = refl
+
+blank-drawn : drawn [] ≡ accepted (bytes "digraph costs {\n}\n")
+unfolding drawn readTask dotText
+blank-drawn = refl

@@ -277,11 +277,12 @@ pub fn damaged_list(random: &mut Random, list: &[u16], count: usize) -> Vec<u16>
     list
 }
 
-/// A file with one thing changed: a byte, a bit, its length, a byte put in or left out.
+/// A file with one thing changed: a byte, a bit, its length, a byte put in or left out; one of zero bytes gets a byte.
 pub fn damaged_file(random: &mut Random, file: &[u8]) -> Vec<u8> {
     let mut file = file.to_vec();
-    let at = random.below(file.len());
+    let at = random.below(file.len().max(1));
     match random.below(8) {
+        _ if file.is_empty() => file.push(random.bits() as u8),
         0 | 1 => file[at] = random.bits() as u8,
         2 | 3 => file[at] ^= 1 << random.below(8),
         4 => file[at] = file[at].wrapping_add(random.pick(&[1, 255])),

@@ -1,5 +1,5 @@
-//! A second implementation of document 01, with document 02's W5 and W7, in plain Rust, written from the documents and not from the proved code, to compare the proved
-//! library with and to measure it by.
+//! A second implementation of document 01, with document 02's W1, W5 and W7, in plain Rust, written from the documents and not from the proved code, to compare the
+//! proved library with and to measure it by.
 //!
 //! `parts`, `reading`, `running`, `writing`, `plans` and `heuristic` are the operations. `call` has them as values, for comparing and timing; `model`,
 //! `definition`, `generate` and `special` serve the tests.

@@ -118,7 +118,7 @@ impl ActionModel {
 }
 
 impl TaskModel {
-    /// The bytes of the task file.
+    /// The bytes of the task file; those of a task without actions are refused, and the blank task's file has zero bytes instead.
     pub fn bytes(&self) -> Vec<u8> {
         let mut bytes = head_bytes(&self.sizes, &self.initial, &self.goal);
         bytes.push(self.actions.len() as u8);

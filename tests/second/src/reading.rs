@@ -21,6 +21,9 @@ pub struct ProbeReader<'a> {
     steps_read: usize,
 }
 
+/// The head of the blank task, whose file has zero bytes: one variable of 2 values at 0, and an empty goal. It has no actions.
+const BLANK: Head = Head { sizes: &[2], initial: &[0], goal: PartialState { map: 0, values: &[] } };
+
 /// A place in a file.
 struct Cursor<'a> {
     file: &'a [u8],
@@ -70,11 +73,13 @@ impl<'a> Probe<'a> {
 }
 
 impl<'a> TaskReader<'a> {
-    /// Reads a task file up to its first action.
+    /// Reads a task file up to its first action; one of zero bytes is the blank task's.
     pub fn open(file: &'a [u8]) -> Answer<TaskReader<'a>> {
         let mut cursor = Cursor { file, at: 0 };
-        let head = cursor.head(Task::VARIABLES, Task::VALUES)?;
-        let action_count = cursor.count(1, Task::ACTIONS)?;
+        let (head, action_count) = match file {
+            [] => (BLANK, 0),
+            _ => (cursor.head(Task::VARIABLES, Task::VALUES)?, cursor.count(1, Task::ACTIONS)?),
+        };
         Ok(TaskReader { head, action_count, cursor, actions_read: 0, nodes_read: 0, steps_before: 0 })
     }
 

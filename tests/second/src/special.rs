@@ -1,4 +1,4 @@
-//! Tasks and probe files that are made for one purpose: the document's own, the longest, those whose paths pass few or many nodes, those whose preconditions raise
+//! Tasks and probe files that are made for one purpose: the documents' own, the longest, those whose paths pass few or many nodes, those whose preconditions raise
 //! a relaxed cost, and those whose estimates are near the limit.
 
 use crate::model::{ActionModel, Facts, NodeModel, ProbeModel, StepModel, TaskModel};
@@ -17,6 +17,11 @@ pub fn task_p() -> TaskModel {
             nodes: vec![NodeModel { variable: 0, edges: vec![(2, 5), (2, 0)] }],
         }],
     }
+}
+
+/// Document 02's blank task, whose file has zero bytes: one variable of 2 values at 0, an empty goal, no actions.
+pub fn blank_task() -> TaskModel {
+    TaskModel { sizes: vec![2], initial: vec![0], ..TaskModel::default() }
 }
 
 /// Every variable of a state of `count` variables at a value.

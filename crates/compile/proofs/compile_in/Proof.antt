@@ -59,12 +59,12 @@ needed-is : (c : tie.After-head-length) → c .head-length .result + c .before .
 needed-is c = let s = c .before .before .before .before .before .before in file-length (now (s .args .file)) (s .pre) (sizes-are s) (c .head-length .ensures .0) (c .before .extent-of .ensures .1)
 
 add-needed : tie.Need-add-needed
-add-needed c = let s = c .before .before .before .before .before .before .before in omega (arith, needed-is (c .before), compiled-length (now (s .args .file)) (task s .reads))
+add-needed c = let s = c .before .before .before .before .before .before .before in omega (arith, needed-is (c .before), compiled-length _ (task s .reads))
 
 returns : tie.Need-returns
 returns c =
     let s = c .before .before .before .before .before .before .before .before in
-    short-in (file-of (now (s .args .file)) (task s .reads)) (now (s .args .out)) (needed-is (c .before .before)) (c .if1 .taken)
+    short-in (file-of _ (task s .reads)) (now (s .args .out)) (needed-is (c .before .before)) (c .if1 .taken)
 
 -- there is room for it
 room : (c : tie.Else1) → let s = c .before .before .before .before .before .before .before .before in length (probe s) ≤ length (now (s .args .out))
@@ -76,7 +76,7 @@ put-head-requires c κs =
     let f = now (s .args .file) in
     let r = task s .reads in
     let count = c .before .before .before .before .extent-of .ensures .0 in (
-      (begins s .variables, begins s .actions, omega (arith, count, ap length (steps-in-place f (s .pre) (sizes-are s)), steps-most (task s .task) (task-wf f r) (task-limits f r)), goal-stands f (s .pre)),
+      (begins s .variables, begins s .actions, omega (arith, count, ap length (steps-in-place f (s .pre) (sizes-are s)), steps-most (task s .task) (task-wf _ r) (task-limits _ r)), goal-stands f (s .pre)),
       ((λ a l. weighs f (stood s a l) (s .pre .fronts .incoming a l)), front-room f (s .pre) (sizes-are s) count (room (c .before))),
     )
 
@@ -97,7 +97,7 @@ wrote c = let s = c .before .before .before .before .before .before .before .bef
 returns-2 : tie.Need-returns-2
 returns-2 c =
     let s = c .before .before .before .before .before .before .before .before .before .before .before .before .before .before .before .before in
-    wrote-in (file-of (now (s .args .file)) (task s .reads)) (room (c .before .before .before .before .before .before .before .before)) (wrote (c .before .before))
+    wrote-in (file-of _ (task s .reads)) (room (c .before .before .before .before .before .before .before .before)) (wrote (c .before .before))
 
 pub compile-in-spec : {M : Type 1} → statement M
 compile-in-spec =
@@ -116,6 +116,6 @@ compile-in-spec =
     (λ c. inside (c .before .before))
     (λ c. search needs)
     put-actions-requires
-    (λ c. let s = c .before .before .before .before .before .before .before .before .before .before .before .before .before .before .before .before in omega (arith, wrote (c .before .before) .count, compiled-length (now (s .args .file)) (task s .reads)))
+    (λ c. let s = c .before .before .before .before .before .before .before .before .before .before .before .before .before .before .before .before in omega (arith, wrote (c .before .before) .count, compiled-length _ (task s .reads)))
     (λ c. search needs)
     returns-2)

@@ -8,6 +8,7 @@ use lib.Seq.{length-take-le}
 use denote.Ref.{now}
 use Rattle.facts.specs.Read.{accepted}
 use Rattle.facts.specs.Write.{Wrote}
+use Rattle.taskfile.specs.Blank.{fileOf}
 use Rattle.carry.specs.CarryFile.{contracted}
 use Rattle.carry.specs.AnswerLaws.{short-in, wrote-in}
 use Rattle.follow.specs.Follow.{ContractsTo}
@@ -20,8 +21,8 @@ abbrev noted : tie.After-count → List ℕ
 noted c = c .before .before .before .follow-plan .last .1 .1 .1 .1 .1 .0
 
 -- the list is contracted to so many of them
-carried : (c : tie.After-count) → let a = c .before .before .before .before .before .before .before .before .before .args in (c .count .given .0 .0 ≤ length (noted c)) × (contracted (now (a .file)) (now (a .list)) ≡ accepted (take (c .count .given .0 .0) (noted c), c .count .given .0 .1 .0))
-carried c = let a = c .before .before .before .before .before .before .before .before .before .args in subst (ContractsTo (now (a .file)) (now (a .list)) (noted c)) (c .count .given .1) (c .before .before .before .follow-plan .ensures)
+carried : (c : tie.After-count) → let a = c .before .before .before .before .before .before .before .before .before .args in (c .count .given .0 .0 ≤ length (noted c)) × (contracted (fileOf (now (a .file))) (now (a .list)) ≡ accepted (take (c .count .given .0 .0) (noted c), c .count .given .0 .1 .0))
+carried c = let a = c .before .before .before .before .before .before .before .before .before .args in subst (ContractsTo (fileOf (now (a .file))) (now (a .list)) (noted c)) (c .count .given .1) (c .before .before .before .follow-plan .ensures)
 
 long : (c : tie.After-count) → length (take (c .count .given .0 .0) (noted c)) ≡ c .count .given .0 .0
 long c = length-take-le (c .count .given .0 .0) (noted c) (carried c .0)

@@ -12,7 +12,7 @@ returns : tie.Need-returns
 returns c =
     let s = c .before .before .before .before .before in
     let f = now (s .args .file) in
-    refused-in (now (s .args .out)) (expand-long f (reads f (s .pre)) (now (s .args .list)) (c .if1 .taken))
+    refused-in (now (s .args .out)) (expand-long _ (reads f (s .pre)) (now (s .args .list)) (c .if1 .taken))
 
 pub expand-in-spec : {M : Type 1} → statement M
 expand-in-spec =

@@ -4,6 +4,7 @@ use denote.Ref.{now}
 use Rattle.facts.specs.Answers.{checkedAnswer}
 use Rattle.facts.specs.BytesLaws.{bytes-each}
 use Rattle.facts.specs.WriteLaws.{refused-in}
+use Rattle.taskfile.specs.BlankLaws.{file-bytes}
 use Rattle.taskfile.specs.AnswerLaws.{there}
 use Rattle.words.specs.DescribeLaws.{head-fits, sizes-in}
 use Rattle.steps.specs.StepsLaws.{names-are}
@@ -19,16 +20,18 @@ returns c = let s = c .before .before .before .before .before in refused-in (now
 trace-compiled-requires : tie.Need-trace-compiled-requires
 trace-compiled-requires c κs =
     let s = c .before .before .before .before .before .before .before .before .before .before in
-    let f = now (s .args .file) in
-    record {
-      bytes = bytes-each f (λ i. c .before .before .before .before .before .before .before .before .before .shared-slice-known .given i .fits);
-      t = there f (s .pre) .task;
-      task = there f (s .pre) .reads;
-      same = names-are f (s .pre) (sizes-in f (s .pre));
-      few = c .before .before .before .before .before .if1 .left;
-      u = tt;
-      known = sym (c .before .before .before .check-steps .ensures) ∙ ap checkedAnswer (c .before .enum-told .given .1);
-    }
+    let f = now (s .args .file) in (
+      s .pre,
+      record {
+        bytes = file-bytes f (bytes-each f (λ i. c .before .before .before .before .before .before .before .before .before .shared-slice-known .given i .fits));
+        t = there f (s .pre) .task;
+        task = there f (s .pre) .reads;
+        same = names-are f (s .pre) (sizes-in f (s .pre));
+        few = c .before .before .before .before .before .if1 .left;
+        u = tt;
+        known = sym (c .before .before .before .check-steps .ensures) ∙ ap checkedAnswer (c .before .enum-told .given .1);
+      },
+    )
 
 returns-2 : tie.Need-returns-2
 returns-2 c =

@@ -2,6 +2,7 @@
 use mathlib.Core.Path.{_≡_, sym, ap, _∙_}
 use denote.Ref.{now}
 use Rattle.facts.specs.Read.{accepted}
+use Rattle.taskfile.specs.Blank.{fileOf}
 use Rattle.probefile.specs.Answers.{indexedAnswer}
 use Rattle.probefile.specs.InPlace.{probeAt}
 use Rattle.probefile.specs.IndexLaws.{starts}
@@ -22,7 +23,7 @@ write-in-requires c κs =
     let f = now (s .args .file) in
     let h = file-is (c .before .before .before) in
     let is = trace-is (s .pre .0) (s .pre .1) h _ (c .before .before .before .before .before .before .index .ensures .1) (s .args .states) in
-    ((starts _ h .variables, starts _ h .fits, s .pre .0 .few), omega (arith, traced-most (s .args .states) f (now (s .args .list)) (s .pre .0 .bytes) is))
+    ((starts _ h .variables, starts _ h .fits, s .pre .0 .few), omega (arith, traced-most (s .args .states) (fileOf f) (now (s .args .list)) (s .pre .0 .bytes) is))
 
 returns : tie.Need-returns
 returns c = let s = c .before .before .before .before .before .before .before .before .before .before .before .before in absurd (written-accepted (s .pre .0) (s .pre .1) (sym (c .before .before .before .before .index .ensures .0) ∙ ap indexedAnswer (c .before .why .given .1)))

@@ -127,7 +127,7 @@ fn sample(work: &mut dyn FnMut() -> u64, count: usize) -> f64 {
     start.elapsed().as_nanos() as f64 / count as f64
 }
 
-/// Times every operation on a task, its compiled file and the lists of a plan.
+/// Times every operation on a task, its compiled file and the lists of a plan; costs where there is an action.
 fn every_operation(input: &Input) {
     let Input { name, file, list } = input;
     let mut probe = vec![0; Task::COMPILED_BYTES];
@@ -136,9 +136,9 @@ fn every_operation(input: &Input) {
     let mut steps = vec![0; Probe::LIST];
     let (length, _) = second::expand(file, list, &mut steps).expect("a plan");
     steps.truncate(length);
-    let state = &file[1 + usize::from(file[0])..][..usize::from(file[0])];
-    let sets = full_sets(&file[1..=state.len()]);
-    let mut probe_state = state.to_vec();
+    let task = TaskModel::of(&Task::read(file).expect("an accepted task"));
+    let (state, sets) = (&task.initial, full_sets(&task.sizes));
+    let mut probe_state = state.clone();
     probe_state.resize(usize::from(probe[0]), 0);
     let calls = [
         Call::on(Operation::CheckTask, file),
@@ -153,7 +153,8 @@ fn every_operation(input: &Input) {
         Call::on(Operation::RunProbe, &probe).list(&steps),
         Call::on(Operation::EstimateProbe, &probe).state(&probe_state),
     ];
-    for call in &calls {
+    let costs = [Operation::Cost, Operation::RelaxedCost];
+    for call in calls.iter().filter(|call| !task.actions.is_empty() || !costs.contains(&call.operation)) {
         row(call, &described(name, call));
         if call.operation == Operation::Compile {
             copy_row(&probe);

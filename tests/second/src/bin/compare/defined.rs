@@ -13,7 +13,7 @@ const MOST_STEPS: usize = 128;
 /// What is known of the file that was used last.
 #[derive(Default)]
 pub struct Known {
-    file: Vec<u8>,
+    file: Option<Vec<u8>>,
     task: Option<TaskModel>,
     probe: Option<ProbeModel>,
 }
@@ -21,8 +21,8 @@ pub struct Known {
 impl Known {
     /// The answer to a call, and what is written into an output buffer of a length.
     pub fn defined(&mut self, call: &Call, room: usize) -> Option<Written> {
-        if self.file != call.file {
-            self.file = call.file.to_vec();
+        if self.file.as_deref() != Some(call.file) {
+            self.file = Some(call.file.to_vec());
             self.task = Task::read(call.file).ok().map(|task| TaskModel::of(&task));
             self.probe = Probe::read(call.file).ok().map(|probe| ProbeModel::of(&probe));
         }

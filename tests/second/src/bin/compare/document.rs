@@ -15,7 +15,7 @@ const P_PROBE: &str = "03 | 02 02 03 | 00 00 00 | 07 0* 01 00 00 | 04 00 \
     | 05 0* 01 01 04 0* 02 00 00 | 04 0* 02 07 0* 01 00 00 00 00";
 
 /// Bytes from the document's text: two digits a byte, `0*` seven zero bytes.
-fn bytes(text: &str) -> Vec<u8> {
+pub fn bytes(text: &str) -> Vec<u8> {
     let mut bytes = Vec::new();
     for word in text.split_whitespace().filter(|&word| word != "|") {
         match word {
@@ -34,12 +34,12 @@ fn p_with(at: usize, byte: u8) -> Vec<u8> {
 }
 
 /// The answer that is this refusal.
-fn refusal(number: u8, place: usize) -> Written {
+pub fn refusal(number: u8, place: usize) -> Written {
     packed(refused(number, place))
 }
 
 /// The answer that is this sum, cost or exact estimate.
-fn sum(sum: u32) -> Written {
+pub fn sum(sum: u32) -> Written {
     packed(u64::from(sum))
 }
 
@@ -49,7 +49,7 @@ fn over() -> Written {
 }
 
 /// The answer that an estimate is never.
-fn never() -> Written {
+pub fn never() -> Written {
     packed(2 << 32)
 }
 
@@ -59,12 +59,12 @@ fn counted(count: usize, sum: u32) -> Written {
 }
 
 /// The answer that a list was written, with its sum.
-fn list(entries: &[u16], sum: u32) -> Written {
+pub fn list(entries: &[u16], sum: u32) -> Written {
     Written { entries: entries.to_vec(), ..counted(entries.len(), sum) }
 }
 
 /// The answer that a file was written.
-fn file(bytes: Vec<u8>) -> Written {
+pub fn file(bytes: Vec<u8>) -> Written {
     Written { answer: (bytes.len() as u64) << 32, bytes, entries: Vec::new() }
 }
 
@@ -99,7 +99,7 @@ fn table(comparison: &mut Comparison) {
     let mut and_a_byte = bytes(P);
     and_a_byte.push(0);
     let files = [
-        ("1: zero bytes", Vec::new(), 1, 0),
+        ("1: the lone byte 01", vec![1], 1, 1),
         ("2: P and a byte", and_a_byte, 2, 40),
         ("3: first byte 00", p_with(0, 0), 3, 0),
         ("4: P, third byte 02", p_with(2, 2), 4, 2),
@@ -335,7 +335,7 @@ fn known_estimates(comparison: &mut Comparison) {
 }
 
 /// A task of one action without facts or nodes.
-fn plain(variables: usize, size: u8) -> TaskModel {
+pub fn plain(variables: usize, size: u8) -> TaskModel {
     TaskModel {
         sizes: vec![size; variables],
         initial: vec![0; variables],
@@ -450,13 +450,13 @@ fn buffers(comparison: &mut Comparison) {
     }
 }
 
-/// P cut anywhere: 1 at the first byte of the field that is missing or cut.
+/// P cut anywhere but before its first byte: 1 at the first byte of the field that is missing or cut.
 fn cut(comparison: &mut Comparison) {
     let p = bytes(P);
-    let fields = [0, 1, 2, 3, 11, 12, 13, 21, 29, 30, 32, 33, 34, 35, 37, 38];
-    for length in 0..p.len() {
+    let fields = [1, 2, 3, 11, 12, 13, 21, 29, 30, 32, 33, 34, 35, 37, 38];
+    for length in 1..p.len() {
         let place = fields.iter().filter(|&&field| field <= length).max();
-        let wanted = refusal(1, *place.expect("the first field is at 0"));
+        let wanted = refusal(1, *place.expect("the second field is at 1"));
         comparison.document("P cut", &Call::on(Operation::CheckTask, &p[..length]), 0, wanted);
     }
 }

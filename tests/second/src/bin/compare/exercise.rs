@@ -11,29 +11,35 @@ const MOST_STEPS: usize = 26;
 
 /// Asks every operation about a task, for a list of actions that may be a plan.
 pub fn task(comparison: &mut Comparison, random: &mut Random, task: &TaskModel, list: &[u16]) {
-    let file = task.bytes();
-    check(comparison, Operation::CheckTask, &file);
-    let probe = comparison.every_room(&Call::on(Operation::Compile, &file)).bytes;
+    task_of(comparison, random, task, &task.bytes(), list);
+}
+
+/// Asks every operation about the task of a file, for a list of actions that may be a plan.
+pub fn task_of(comparison: &mut Comparison, random: &mut Random, task: &TaskModel, file: &[u8], list: &[u16]) {
+    check(comparison, Operation::CheckTask, file);
+    let probe = comparison.every_room(&Call::on(Operation::Compile, file)).bytes;
     let accepted = Call::on(Operation::CheckProbe, &probe);
     let answer = comparison.answer(&accepted);
     comparison.law("the compiled file is accepted", &accepted, 0, answer);
-    plan(comparison, random, &file, &probe, list);
+    plan(comparison, random, file, &probe, list);
     for _ in 0..4 {
         let damaged = damaged_list(random, list, task.actions.len());
-        plan(comparison, random, &file, &probe, &damaged);
+        plan(comparison, random, file, &probe, &damaged);
     }
-    costs(comparison, random, task, &file);
-    estimates(comparison, random, task, &file, &probe);
+    costs(comparison, random, task, file);
+    estimates(comparison, random, task, file, &probe);
 }
 
-/// Asks whether a file is accepted; where it is refused, what comes before the place is a file that ends there.
+/// Asks whether a file is accepted; where it is refused, what comes before the place is a file that ends there, or the blank task's.
 pub fn check(comparison: &mut Comparison, operation: Operation, file: &[u8]) -> u64 {
     let call = Call::on(operation, file);
     let answer = comparison.answer(&call);
-    let (front, wanted) = match number(answer) {
-        0 => return answer,
-        2 => (low(answer) as usize, 0),
-        _ => (low(answer) as usize, refused(1, low(answer) as usize)),
+    let front = low(answer) as usize;
+    let wanted = match (number(answer), front) {
+        (0, _) => return answer,
+        (2, _) => 0,
+        (_, 0) if operation == Operation::CheckTask => 0,
+        _ => refused(1, front),
     };
     let before = comparison.answer(&Call::on(operation, &file[..front]));
     comparison.law("up to the place nothing is wrong", &call, wanted, before);
@@ -92,15 +98,19 @@ fn probe_lists(comparison: &mut Comparison, random: &mut Random, file: &[u8], pr
     }
 }
 
-/// Asks for costs and relaxed costs, in right and wrong states, of actions that there are and are not.
+/// Asks for costs and relaxed costs, in right and wrong states, of actions that there are and are not; where there are none, of action 0 all the same.
 fn costs(comparison: &mut Comparison, random: &mut Random, task: &TaskModel, file: &[u8]) {
     for _ in 0..6 {
-        let action = random.below(task.actions.len());
-        Relaxed::of(task, file, action).ask(comparison, random);
+        let action = random.below(task.actions.len().max(1));
+        if action < task.actions.len() {
+            Relaxed::of(task, file, action).ask(comparison, random);
+        }
         let state = random.state(&task.sizes);
         let sets = random.sets_with(&state, &task.sizes);
         let cost = Call::on(Operation::Cost, file).state(&state);
-        alone(comparison, task, cost.action(action as u64));
+        if action < task.actions.len() {
+            alone(comparison, task, cost.action(action as u64));
+        }
         let relaxed = Call::on(Operation::RelaxedCost, file).state(&sets);
         for call in [cost, relaxed].map(|call| call.action(action as u64)) {
             comparison.answer(&call);
@@ -181,9 +191,7 @@ pub fn probe(comparison: &mut Comparison, random: &mut Random, probe: &ProbeMode
 pub fn damage(comparison: &mut Comparison, random: &mut Random, operation: Operation, file: &[u8]) {
     let mut damaged = damaged_file(random, file);
     for _ in 0..random.below(3) {
-        if !damaged.is_empty() {
-            damaged = damaged_file(random, &damaged);
-        }
+        damaged = damaged_file(random, &damaged);
     }
     let answer = check(comparison, operation, &damaged);
     if operation == Operation::CheckTask {

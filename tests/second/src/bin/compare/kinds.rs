@@ -302,7 +302,7 @@ fn three_nodes() -> TaskModel {
 }
 
 /// Calls `visit` with each truncation of a file, each change of one byte, and the file with bytes after it.
-fn every_damage(file: &[u8], mut visit: impl FnMut(&[u8])) {
+pub fn every_damage(file: &[u8], mut visit: impl FnMut(&[u8])) {
     for length in 0..file.len() {
         visit(&file[..length]);
     }
@@ -321,7 +321,7 @@ fn every_damage(file: &[u8], mut visit: impl FnMut(&[u8])) {
 }
 
 /// Asks every operation on tasks about a file like P.
-fn on_task(comparison: &mut Comparison, file: &[u8]) {
+pub fn on_task(comparison: &mut Comparison, file: &[u8]) {
     exercise::check(comparison, Operation::CheckTask, file);
     for operation in [Operation::Cost, Operation::RelaxedCost, Operation::EstimateTask] {
         comparison.answer(&Call::on(operation, file).state(&[1]));

@@ -2,6 +2,7 @@
 //! The first difference is reported with its seed and input and ends the run with exit code 1, and so does an answer never given or a situation never met.
 
 mod answers;
+mod blank;
 mod comparison;
 mod defined;
 mod document;
@@ -18,6 +19,7 @@ fn main() {
     let start = Instant::now();
     let mut comparison = Comparison::new();
     document::cases(&mut comparison);
+    blank::cases(&mut comparison);
     kinds::tasks(&mut comparison);
     kinds::limits(&mut comparison);
     kinds::tiny_tasks(&mut comparison);
