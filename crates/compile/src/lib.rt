@@ -20,7 +20,8 @@ pub fn compile(file: &[u8], out: &mut [u8]) -> Compiled
     match index::index_in(file, &mut row) {
         Counted::Refused(why) => Compiled::Refused(why),
         Counted::Actions(variables, actions) => {
-            compile_in(bytes_of(file, &Task::BLANK), variables, actions, &row, out)
+            let bytes = bytes_of(file, &Task::BLANK);
+            compile_in(bytes, variables, actions, &row, out)
         }
     }
 }

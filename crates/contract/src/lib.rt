@@ -26,14 +26,8 @@ pub fn contract(file: &[u8], list: &[u16], out: &mut [u16]) -> Carried
     match index::index_in(file, &mut row) {
         Counted::Refused(why) => Carried::Refused(why),
         Counted::Actions(variables, actions) => {
-            contract_in(
-                bytes_of(file, &Task::BLANK),
-                variables,
-                actions,
-                &row,
-                list,
-                out,
-            )
+            let bytes = bytes_of(file, &Task::BLANK);
+            contract_in(bytes, variables, actions, &row, list, out)
         }
     }
 }

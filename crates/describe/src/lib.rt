@@ -26,7 +26,8 @@ pub fn show(file: &[u8], out: &mut [u8]) -> Described
     match index::index_in(file, &mut row) {
         Counted::Refused(why) => Described::Refused(why),
         Counted::Actions(variables, actions) => {
-            show_in(bytes_of(file, &Task::BLANK), variables, actions, &row, out)
+            let bytes = bytes_of(file, &Task::BLANK);
+            show_in(bytes, variables, actions, &row, out)
         }
     }
 }

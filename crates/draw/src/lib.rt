@@ -25,14 +25,8 @@ pub fn draw(file: &[u8], out: &mut [u8]) -> Described
     match index::index_in(file, &mut row) {
         Counted::Refused(why) => Described::Refused(why),
         Counted::Actions(variables, actions) => {
-            draw_in(
-                bytes_of(file, &Task::BLANK),
-                variables,
-                &row,
-                0,
-                actions,
-                out,
-            )
+            let bytes = bytes_of(file, &Task::BLANK);
+            draw_in(bytes, variables, &row, 0, actions, out)
         }
     }
 }
@@ -49,14 +43,8 @@ pub fn draw_action(file: &[u8], action: usize, out: &mut [u8]) -> Described
             if actions <= action {
                 return Described::Refused(Refusal::Missing(0));
             }
-            draw_in(
-                bytes_of(file, &Task::BLANK),
-                variables,
-                &row,
-                action,
-                action + 1,
-                out,
-            )
+            let bytes = bytes_of(file, &Task::BLANK);
+            draw_in(bytes, variables, &row, action, action + 1, out)
         }
     }
 }

@@ -28,14 +28,8 @@ pub fn expand(file: &[u8], list: &[u16], out: &mut [u16]) -> Carried
     match index::index_in(file, &mut row) {
         Counted::Refused(why) => Carried::Refused(why),
         Counted::Actions(variables, actions) => {
-            expand_in(
-                bytes_of(file, &Task::BLANK),
-                variables,
-                actions,
-                &row,
-                list,
-                out,
-            )
+            let bytes = bytes_of(file, &Task::BLANK);
+            expand_in(bytes, variables, actions, &row, list, out)
         }
     }
 }

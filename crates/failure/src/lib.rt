@@ -45,14 +45,8 @@ pub fn task_failure(file: &[u8], list: &[u16], out: &mut [u8]) -> Described
             if Task::MAX_LIST < list.len() {
                 return Described::Refused(Refusal::Long(Task::MAX_LIST));
             }
-            failure_in(
-                bytes_of(file, &Task::BLANK),
-                variables,
-                &row[..actions],
-                b"action ",
-                list,
-                out,
-            )
+            let bytes = bytes_of(file, &Task::BLANK);
+            failure_in(bytes, variables, &row[..actions], b"action ", list, out)
         }
     }
 }

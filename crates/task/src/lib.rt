@@ -35,14 +35,8 @@ pub fn cost(file: &[u8], action: usize, state: &[u8]) -> Tallied
     match index::index_in(file, &mut row) {
         Counted::Refused(why) => Tallied::Refused(why),
         Counted::Actions(variables, actions) => {
-            cost_in(
-                bytes_of(file, &Task::BLANK),
-                variables,
-                actions,
-                &row,
-                action,
-                state,
-            )
+            let bytes = bytes_of(file, &Task::BLANK);
+            cost_in(bytes, variables, actions, &row, action, state)
         }
     }
 }
@@ -82,7 +76,8 @@ pub fn run(file: &[u8], list: &[u16]) -> Tallied
     match index::index_in(file, &mut row) {
         Counted::Refused(why) => Tallied::Refused(why),
         Counted::Actions(variables, actions) => {
-            run_in(bytes_of(file, &Task::BLANK), variables, actions, &row, list)
+            let bytes = bytes_of(file, &Task::BLANK);
+            run_in(bytes, variables, actions, &row, list)
         }
     }
 }

@@ -20,13 +20,8 @@ pub fn estimate(file: &[u8], state: &[u8]) -> Estimated
     match index::index_in(file, &mut row) {
         Counted::Refused(why) => Estimated::Refused(why),
         Counted::Actions(variables, actions) => {
-            estimate_in(
-                bytes_of(file, &Task::BLANK),
-                variables,
-                actions,
-                &row,
-                state,
-            )
+            let bytes = bytes_of(file, &Task::BLANK);
+            estimate_in(bytes, variables, actions, &row, state)
         }
     }
 }

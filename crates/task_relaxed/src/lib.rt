@@ -18,14 +18,8 @@ pub fn relaxed_cost(file: &[u8], action: usize, sets: &[u8]) -> Costed
     match index::index_in(file, &mut row) {
         Counted::Refused(why) => Costed::Refused(why),
         Counted::Actions(variables, actions) => {
-            relaxed::relaxed_in(
-                bytes_of(file, &Task::BLANK),
-                variables,
-                actions,
-                &row,
-                action,
-                sets,
-            )
+            let bytes = bytes_of(file, &Task::BLANK);
+            relaxed::relaxed_in(bytes, variables, actions, &row, action, sets)
         }
     }
 }

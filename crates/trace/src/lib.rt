@@ -37,15 +37,8 @@ pub fn trace(file: &[u8], list: &[u16], states: bool, out: &mut [u8]) -> Describ
     match index::index_in(file, &mut row) {
         Counted::Refused(why) => Described::Refused(why),
         Counted::Actions(variables, actions) => {
-            trace_in(
-                bytes_of(file, &Task::BLANK),
-                variables,
-                actions,
-                &row,
-                list,
-                states,
-                out,
-            )
+            let bytes = bytes_of(file, &Task::BLANK);
+            trace_in(bytes, variables, actions, &row, list, states, out)
         }
     }
 }
