@@ -11,6 +11,7 @@ use Rattle.facts.specs.Run.{runFrom, atMost}
 use Rattle.facts.specs.Fields.{readNumber, field, readCount, readValue, readMap, readWeight, readValues, readPartial, readOperator, readSizes, readHead, readEnd}
 use Rattle.taskfile.specs.Task.{Edge, Action, Task, walkFrom, walk, actionMove, actionPasses, taskSum, taskPassed, taskRun}
 use Rattle.taskfile.specs.TaskFile.{readVariable, readTarget, readEdge, readEdges, readNode, readNodes, readDiagram, readAction, readActions, readBytes, readTask, checkTask, actionOf, askTask, costTask, runTask}
+use Rattle.taskfile.specs.Blank.{blankHead}
 
 -- ---- what an example opens: all definitions that lead from the bytes of a file to an answer
 
@@ -69,6 +70,15 @@ P-read = refl
 pub lone-byte-01 : checkTask (1 ∷ []) ≡ refused 1 1
 unfolding answering
 lone-byte-01 = refl
+
+-- near the blank task's file: a zero byte, and its head with no actions
+zero-byte : checkTask (0 ∷ []) ≡ refused 3 0
+unfolding answering
+zero-byte = refl
+
+counted-none : checkTask (blankHead ++ 0 ∷ []) ≡ refused 3 11
+unfolding answering
+counted-none = refl
 
 pub P-and-a-byte : (byte : ℕ) → checkTask (P-bytes ++ (byte ∷ [])) ≡ refused 2 40
 unfolding answering
