@@ -1,4 +1,5 @@
-/* Compiles a task file, runs a plan to know how many steps it has on the probe, carries it across and back, compares the sums, and traces the steps.
+/* Compiles a task file, runs a plan to know how many steps it has on the probe, carries it across and back, compares the sums, and traces the steps; what a shop bills for it
+ * is said with the sum.
  *
  *   rt staticlib jafrelin
  *   cc -Iinclude examples/carry.c target/staticlib/libjafrelin.a -o carry
@@ -47,7 +48,9 @@ int main(int argc, char **argv)
     uint64_t home = accepted(jafrelin_contract(task, task_len, steps, count, back, JAFRELIN_TASK_MAX_LIST), JAFRELIN_OF_CONTRACTED);
     uint64_t trace = accepted(jafrelin_trace(task, task_len, steps, count, 1, text, sizeof text), JAFRELIN_OF_LIST);
 
-    printf("%zu bytes, %zu steps, sum %u\n", probe_len, count, (unsigned)JAFRELIN_SUM(there));
+    unsigned cents = JAFRELIN_CENTS(jafrelin_charge(JAFRELIN_SUM(there)));
+
+    printf("%zu bytes, %zu steps, sum %u, charge %u.%02u\n", probe_len, count, (unsigned)JAFRELIN_SUM(there), cents / 100, cents % 100);
     fwrite(text, 1, JAFRELIN_LENGTH(trace), stdout);
     return JAFRELIN_SUM(there) != JAFRELIN_SUM(run) || JAFRELIN_LENGTH(there) != count || JAFRELIN_SUM(there) != JAFRELIN_SUM(followed) || JAFRELIN_SUM(there) != JAFRELIN_SUM(home) || JAFRELIN_LENGTH(home) != actions;
 }

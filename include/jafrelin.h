@@ -9,7 +9,7 @@
  * The result of every function:
  *   bits 63 to 56   the refusal's number, 1 to 12 or 17; 0 for success
  *   bits 55 to 32   for success: the length written; of a cost or a run on a task the nodes passed; of an estimate 0 exact, 1 over, 2 never; else 0
- *   bits 31 to 0    for success: the sum, the cost or the exact estimate; for a refusal: its place
+ *   bits 31 to 0    for success: the sum, the cost, the exact estimate or the charge; for a refusal: its place
  */
 #ifndef JAFRELIN_H
 #define JAFRELIN_H
@@ -28,6 +28,7 @@ extern "C" {
 #define JAFRELIN_LENGTH(result) ((uint32_t)((result) >> 32 & 0xffffff))
 #define JAFRELIN_NODES(result) JAFRELIN_LENGTH(result)
 #define JAFRELIN_SUM(result) ((uint32_t)(result))
+#define JAFRELIN_CENTS(result) JAFRELIN_SUM(result)
 #define JAFRELIN_PLACE(result) ((uint32_t)(result))
 
 /* The refusals, each with its place. */
@@ -85,6 +86,7 @@ enum jafrelin_refusal {
 #define JAFRELIN_STACK_COMPILE 4096
 #define JAFRELIN_STACK_EXPAND 24576
 #define JAFRELIN_STACK_CONTRACT 24576
+#define JAFRELIN_STACK_CHARGE 256
 #define JAFRELIN_STACK_SHOW 4096
 #define JAFRELIN_STACK_DRAW 4096
 #define JAFRELIN_STACK_DRAW_ACTION 4096
@@ -114,6 +116,10 @@ uint64_t jafrelin_compile(const uint8_t *file, size_t file_len, uint8_t *out, si
 /* The probe list of a plan, and the plan of a probe list, written to the front of a buffer of out_len entries; the sum is returned with the length. */
 uint64_t jafrelin_expand(const uint8_t *file, size_t file_len, const uint16_t *list, size_t list_len, uint16_t *out, size_t out_len);
 uint64_t jafrelin_contract(const uint8_t *file, size_t file_len, const uint16_t *list, size_t list_len, uint16_t *out, size_t out_len);
+
+/* What a shop bills for a run of this sum, in cents: 150, and for each started 1,000 of the sum 12 for the first 20 thousands, 9 for the next 80, 5 beyond. Every sum has a
+ * charge, at most 21,475,450, and none is refused. */
+uint64_t jafrelin_charge(uint32_t sum);
 
 /* The task in words; its cost diagrams for Graphviz, all of them or one action's; the trace of a probe list: each step by name, what it needs and sets, the first
  * that does not apply, and the states unless `states` is 0. Each is written to the front of a buffer of out_len bytes. */

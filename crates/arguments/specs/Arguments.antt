@@ -5,7 +5,7 @@ use mathlib.Core.List.{List, _++_}
 use lib.Dec.{eqb, ltb}
 use Rattle.text.specs.Append.{bytes}
 use Rattle.arguments.specs.declared.Name.{Name}
-use Rattle.arguments.specs.declared.Name.the-variants.{File, Task, Probe, Action, State, Sets, Plan, List as ListName}
+use Rattle.arguments.specs.declared.Name.the-variants.{File, Task, Probe, Action, State, Sets, Plan, List as ListName, Sum}
 use Rattle.arguments.specs.declared.Shape.{Shape}
 use Rattle.arguments.specs.declared.Fit.{Fit}
 use Rattle.arguments.specs.declared.Fit.the-variants.{Fits, Missing, Many}
@@ -34,6 +34,7 @@ nameText State = bytes "STATE"
 nameText Sets = bytes "SETS"
 nameText Plan = bytes "PLAN"
 nameText ListName = bytes "LIST"
+nameText Sum = bytes "SUM"
 
 -- what is wrong, with the word that is
 abbrev pub whatText : List ℕ → Wrong → List ℕ

@@ -17,6 +17,7 @@ pub enum Name {
     Sets,
     Plan,
     List,
+    Sum,
 }
 
 // The arguments of a command: what the first, the second and the third are called, and how many there are at least and at most.

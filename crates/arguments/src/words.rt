@@ -18,6 +18,7 @@ fn put_name(out: &mut [u8], at: usize, name: Name) -> usize
         Name::Sets => append(out, at, b"SETS"),
         Name::Plan => append(out, at, b"PLAN"),
         Name::List => append(out, at, b"LIST"),
+        Name::Sum => append(out, at, b"SUM"),
     }
 }
 

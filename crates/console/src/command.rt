@@ -17,6 +17,7 @@ pub enum Command {
     Show,
     Draw,
     Steps,
+    Charge,
     Unknown,
 }
 
@@ -25,7 +26,7 @@ pub fn first_word(dot: bool) -> Command {
     let mut word = io::buffer();
     let n = os::arg(1, &mut word);
     let commands: &[u8] =
-        b"check compile cost relaxed run follow expand contract estimate show steps ";
+        b"check compile cost relaxed run follow expand contract estimate show steps charge ";
     match number_in(commands, &word[..n]) {
         0 => Command::Check,
         1 => Command::Compile,
@@ -38,6 +39,7 @@ pub fn first_word(dot: bool) -> Command {
         8 => Command::Estimate,
         9 => shown(dot),
         10 => Command::Steps,
+        11 => Command::Charge,
         _ => Command::Unknown,
     }
 }
@@ -79,6 +81,7 @@ pub fn shape_of(command: Command, count: usize) -> Shape {
         Command::Show => shaped(Name::File, Name::File, Name::File, 1, 1),
         Command::Draw => shaped(Name::Task, Name::Action, Name::Action, 1, 2),
         Command::Steps => shaped(Name::Task, Name::List, Name::List, 1, 2),
+        Command::Charge => shaped(Name::Sum, Name::Sum, Name::Sum, 1, 1),
         Command::Unknown => shaped(Name::File, Name::File, Name::File, 1, 0),
     }
 }
@@ -92,6 +95,7 @@ pub fn text_of(command: Command) -> usize {
         Command::Relaxed => 2,
         Command::Show => 0,
         Command::Draw => 0,
+        Command::Charge => 0,
         Command::Unknown => 0,
         _ => 1,
     }

@@ -25,6 +25,12 @@ pub struct Given {
     pub length: usize,
 }
 
+// Whether there was a number, and which.
+pub struct Number {
+    pub ok: bool,
+    pub value: u32,
+}
+
 // Whether argument i is a word.
 pub fn is_word(i: usize, word: &[u8]) -> bool {
     let mut name = io::buffer();
@@ -180,30 +186,31 @@ fn counted(i: usize, text: &[u8], found: Found, most: u32) -> Given {
     }
 }
 
-// The number that argument i is, an action's.
-pub fn read_number(i: usize) -> Given {
+// The number that argument i is, of the name that it has in the help. What is wrong is said.
+pub fn read_number(i: usize, name: &[u8]) -> Number {
     let mut word = io::buffer();
     let length = os::arg(i, &mut word);
     match scan::read::number(&word[..length], ARGUMENT) {
-        One::Number(n) => Given {
-            ok: true,
-            length: n as usize,
-        },
-        One::Large(_) => wrong(b"ACTION", Fault::Above(ARGUMENT)),
-        _ => wrong(b"ACTION", Fault::NotOne),
+        One::Number(n) => Number { ok: true, value: n },
+        One::Large(_) => no_number(name, Fault::Above(ARGUMENT)),
+        _ => no_number(name, Fault::NotOne),
     }
 }
 
-// Nothing was had of the text of argument i, and what is wrong is said.
+// Nothing was had of the argument of a name, and what is wrong is said.
+fn no_number(name: &[u8], why: Fault) -> Number {
+    fault(name, why);
+    Number {
+        ok: false,
+        value: 0,
+    }
+}
+
+// The same of the text of argument i.
 fn wrong_text(i: usize, why: Fault) -> Given {
     let mut name = io::buffer();
     let length = name_of(i, &mut name);
-    wrong(&name[..length], why)
-}
-
-// The same of a name.
-fn wrong(name: &[u8], why: Fault) -> Given {
-    fault(name, why);
+    fault(&name[..length], why);
     Given {
         ok: false,
         length: 0,

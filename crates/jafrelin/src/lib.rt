@@ -14,6 +14,7 @@ ghost use Rattle.carry.specs.CarryFile.{expanded, contracted, answerIn, bufferI
 ghost use Rattle.words.specs.DescribeFile.{shown, drawn, drawnAction};
 ghost use Rattle.trace.specs.TraceFile.{traced};
 ghost use Rattle.sentence.specs.Sentence.{subjectOf, sentence};
+ghost use Rattle.charge.specs.Charge.{chargeOf};
 ghost use Rattle.packing.specs.Packing.{packedCheck, packedSum, packedWalk, packedLength, packedList, packedEstimate, refusalOf, placeOf};
 
 // Whether a task file is accepted.
@@ -105,6 +106,14 @@ pub extern "C" fn jafrelin_contract(file: &[u8], list: &[u16], out: &mut [u16]) 
     ensures { λ r. ⌜ now (out .exit) ≡ bufferIn (now (out .entry)) (contracted (now (file .entry)) (now (list .entry))) ⌝ }
 {
     packing::carried(contract::contract(file, list, out))
+}
+
+// The charge for a sum, in cents.
+#[no_mangle]
+pub extern "C" fn jafrelin_charge(sum: u32) -> u64
+    ensures { λ r. ⌜ r ≡ packedSum (accepted (chargeOf sum)) ⌝ }
+{
+    charge::charge(sum) as u64
 }
 
 // A task in words, written into a buffer.

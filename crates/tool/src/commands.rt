@@ -7,6 +7,7 @@ use compilation::Compiled;
 use console::asking::Asked;
 use console::command::Command;
 use console::input::read_list;
+use console::input::read_number;
 use console::input::read_state;
 use console::output::costed;
 use console::output::count;
@@ -151,6 +152,15 @@ fn follow(file: &[u8], list: &[u16], asked: Asked) {
         }
         Ran::Refused(why) => refuse(asked, Subject::List, why),
     }
+}
+
+// `charge SUM`: what a shop bills for a run, by its sum.
+pub fn charge(i: usize) {
+    let sum = read_number(i, b"SUM");
+    if !sum.ok {
+        return failed();
+    }
+    count(b"cents", charge::charge(sum.value));
 }
 
 // A list that was written into a buffer, and its sum.

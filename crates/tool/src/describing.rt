@@ -51,12 +51,12 @@ pub fn draw(file: &[u8], next: usize, asked: Asked) {
 
 // The cost diagram of the action whose number is an argument.
 fn draw_action(file: &[u8], next: usize, asked: Asked) {
-    let given = read_number(next);
-    if !given.ok {
+    let action = read_number(next, b"ACTION");
+    if !action.ok {
         return failed();
     }
     let mut text = [0; TASK_TEXT];
-    let answer = draw::draw_action(file, given.length, &mut text);
+    let answer = draw::draw_action(file, action.value as usize, &mut text);
     described(answer, &text, Subject::State, asked);
 }
 

@@ -26,6 +26,15 @@ fn main() {
     if !asked.ok {
         return failed();
     }
+    let command = asked.command;
+    match command {
+        Command::Charge => commands::charge(asked.first as usize),
+        _ => with_file(asked),
+    }
+}
+
+// A command on a file, which its first argument names.
+fn with_file(asked: Asked) {
     let mut file = [0; FILE];
     let given = read_file(asked.first as usize, &mut file);
     if !given.ok {
@@ -35,7 +44,7 @@ fn main() {
     on_file(asked, &file[..n]);
 }
 
-// The command on the file that its first argument names.
+// The same on the bytes of that file.
 fn on_file(asked: Asked, file: &[u8]) {
     if asked.probe {
         if is_accepted(probe::check(file), asked) {
@@ -92,11 +101,11 @@ fn on_task(asked: Asked, file: &[u8]) {
 
 // A command on an action, whose number is the second argument.
 fn with_action(asked: Asked, file: &[u8]) {
-    let given = read_number(asked.first as usize + 1);
+    let given = read_number(asked.first as usize + 1, b"ACTION");
     if !given.ok {
         return failed();
     }
-    let action = given.length;
+    let action = given.value as usize;
     let next = asked.first as usize + 2;
     let command = asked.command;
     match command {

@@ -1,9 +1,9 @@
-//! Calls of the operations as values, and their answers packed into 64 bits, as the library's C functions pack them.
+//! Calls of the operations on files as values, and their answers packed into 64 bits, as the library's C functions pack them.
 
 use crate::{Answer, Estimate};
 use std::fmt;
 
-/// The operations.
+/// The operations on files.
 #[derive(Clone, Copy, Debug, PartialEq, Eq)]
 pub enum Operation {
     CheckTask,

@@ -1,4 +1,4 @@
-//! The operations once more, slowly, as the document defines them: by enumeration of states and valuations, over plain values.
+//! The operations once more, slowly, as the documents define them: by enumeration of states and valuations, over plain values; and the charge, thousand by thousand.
 
 use crate::model::{holds, set, ActionModel, Facts, ProbeModel, StepModel, TaskModel};
 use crate::parts::{Probe, Task};
@@ -311,4 +311,31 @@ pub fn contract(task: &TaskModel, list: &[u16]) -> Answer<(Vec<u16>, u32)> {
         }
     }
     Ok((plan, sum))
+}
+
+/// The charge, added up as far as the sum that was asked about last.
+pub struct Charge {
+    started: u64,
+    cents: u64,
+}
+
+impl Charge {
+    /// What a plan costs, and no thousand started.
+    pub fn of_plan() -> Charge {
+        Charge { started: 0, cents: 150 }
+    }
+
+    /// The charge for a sum that is not below the last: what each started thousand adds is added, one at a time.
+    pub fn up_to(&mut self, sum: u32) -> u64 {
+        // The next thousand is started where the sum goes beyond those before it.
+        while u64::from(sum) > 1_000 * self.started {
+            self.started += 1;
+            self.cents += match self.started {
+                1..=20 => 12,
+                21..=100 => 9,
+                _ => 5,
+            };
+        }
+        self.cents
+    }
 }

@@ -7,7 +7,7 @@ type List = *const u16;
 type OutBytes = *mut u8;
 type OutList = *mut u16;
 
-extern "C" {
+unsafe extern "C" {
     fn jafrelin_check_task(file: Bytes, file_len: usize) -> u64;
     fn jafrelin_check_probe(file: Bytes, file_len: usize) -> u64;
     fn jafrelin_cost(file: Bytes, file_len: usize, action: u64, state: Bytes, state_len: usize) -> u64;
@@ -26,6 +26,8 @@ extern "C" {
         out: OutList,
         out_len: usize,
     ) -> u64;
+    /// The library's charge for a sum, packed.
+    pub safe fn jafrelin_charge(sum: u32) -> u64;
 }
 
 /// The library's answer to a call.

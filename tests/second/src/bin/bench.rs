@@ -2,7 +2,7 @@
 
 use second::call::{self, Call, Operation};
 use second::generate::{self, goal_in, walk, Random, Shape};
-use second::library::library;
+use second::library::{jafrelin_charge, library};
 use second::model::{holds, TaskModel};
 use second::parts::{Probe, Task};
 use second::special::{self, task_p};
@@ -46,6 +46,7 @@ fn main() {
     }
     longest_probe();
     growth();
+    charges();
 }
 
 impl Input {
@@ -249,4 +250,52 @@ fn grow(name: &str, actions: usize, nodes: usize) {
     row(&Call::on(Operation::Compile, &file), name);
     let state = &task.initial;
     row(&Call::on(Operation::EstimateTask, &file).state(state), name);
+}
+
+/// Answers the charge for a sum, packed.
+type ChargeTool = extern "C" fn(u32) -> u64;
+
+/// Times the charge for one sum again and again, that of the dearest plan and the largest among them, and for sums of all bands in random order: few, which
+/// a processor may learn to foretell, and many.
+fn charges() {
+    print_header("the charge, one of many calls in a row");
+    for sum in [0, 15_000, 60_000, 419_424_000, u32::MAX] {
+        charge_row(&format!("sum {sum}"), &[sum; 1_024]);
+    }
+    for count in [1_024, 131_072] {
+        charge_row(&format!("{count} sums of all bands"), &mixed_sums(count));
+    }
+}
+
+/// So many sums, each of a random band.
+fn mixed_sums(count: usize) -> Vec<u32> {
+    let bands = [(0, 20_000), (20_001, 100_000), (100_001, 419_424_000)];
+    let random = &mut Random::new(13);
+    let mut sum = || {
+        let band = random.pick(&bands);
+        random.within(band) as u32
+    };
+    (0..count).map(|_| sum()).collect()
+}
+
+/// Times the charges for sums, and prints the row of one call.
+fn charge_row(input: &str, sums: &[u32]) {
+    let tools: [ChargeTool; 2] = [jafrelin_charge, second_charge];
+    let [library, second] = black_box(tools);
+    assert_eq!(total(library, sums), total(second, sums), "{input}");
+    let times = medians([&mut || total(library, sums), &mut || total(second, sums)]);
+    let [first, other] = times.map(|time| time / sums.len() as f64);
+    let ratio = first / other;
+    println!("{:<15}{input:<44}{first:>12.2}{other:>12.2}{ratio:>8.2}", "Charge");
+}
+
+/// The second implementation's charge, to be called as the library's is.
+extern "C" fn second_charge(sum: u32) -> u64 {
+    second::charge(sum).into()
+}
+
+/// The charges for sums, added up, by a call for each: what is called is not known here.
+#[inline(never)]
+fn total(tool: ChargeTool, sums: &[u32]) -> u64 {
+    black_box(sums).iter().map(|&sum| tool(sum)).sum()
 }
