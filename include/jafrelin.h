@@ -69,10 +69,12 @@ enum jafrelin_refusal {
 #define JAFRELIN_PROBE_MAX_LIST 6656
 #define JAFRELIN_PROBE_MAX_WRITTEN 13846
 
-/* The most bytes of a task in words or its drawings, of the trace of a list, and of a sentence. No text ends with a zero byte. */
+/* The most bytes of a task in words or its drawings, of the trace of a list, of a sentence, and of the sheet of a plan, 25 a line. No text ends with a zero byte. */
 #define JAFRELIN_TEXT_MAX_BYTES 65536
 #define JAFRELIN_TRACE_MAX_BYTES 3145728
 #define JAFRELIN_SENTENCE_MAX_BYTES 256
+#define JAFRELIN_SHEET_LINE_BYTES 25
+#define JAFRELIN_SHEET_MAX_BYTES (JAFRELIN_SHEET_LINE_BYTES * (JAFRELIN_TASK_MAX_LIST + 1))
 
 /* The stack that a function needs at most, in bytes, beside what memcpy and memset need; docs/PERFORMANCE.md says how it was measured. */
 #define JAFRELIN_STACK_CHECK_TASK 4096
@@ -86,6 +88,7 @@ enum jafrelin_refusal {
 #define JAFRELIN_STACK_COMPILE 4096
 #define JAFRELIN_STACK_EXPAND 24576
 #define JAFRELIN_STACK_CONTRACT 24576
+#define JAFRELIN_STACK_SHEET 4096
 #define JAFRELIN_STACK_CHARGE 256
 #define JAFRELIN_STACK_SHOW 4096
 #define JAFRELIN_STACK_DRAW 4096
@@ -117,6 +120,10 @@ uint64_t jafrelin_compile(const uint8_t *file, size_t file_len, uint8_t *out, si
 uint64_t jafrelin_expand(const uint8_t *file, size_t file_len, const uint16_t *list, size_t list_len, uint16_t *out, size_t out_len);
 uint64_t jafrelin_contract(const uint8_t *file, size_t file_len, const uint16_t *list, size_t list_len, uint16_t *out, size_t out_len);
 
+/* The sheet of a plan, written to the front of a buffer of out_len bytes: for each action a line of 24 characters and a newline with its index from 0, its number, its cost and the sum up to it and with it,
+ * and a last line with the sum. It has JAFRELIN_SHEET_LINE_BYTES * (plan_len + 1) bytes; the sum is returned with the length, and a list is refused as in a run. */
+uint64_t jafrelin_sheet(const uint8_t *file, size_t file_len, const uint16_t *plan, size_t plan_len, uint8_t *out, size_t out_len);
+
 /* What a shop bills for a run of this sum, in cents: 150, and for each started 1,000 of the sum 12 for the first 20 thousands, 9 for the next 80, 5 beyond. Every sum has a
  * charge, at most 21,475,450, and none is refused. */
 uint64_t jafrelin_charge(uint32_t sum);
@@ -133,7 +140,7 @@ enum jafrelin_subject {
     JAFRELIN_OF_FILE = 0,
     JAFRELIN_OF_STATE = 1,     /* a state, or the action that came with it */
     JAFRELIN_OF_SETS = 2,      /* a relaxed state, or the action that came with it */
-    JAFRELIN_OF_LIST = 3,      /* a list to be run, expanded or traced */
+    JAFRELIN_OF_LIST = 3,      /* a list to be run, expanded or traced, or whose sheet is asked for */
     JAFRELIN_OF_CONTRACTED = 4 /* a list to be contracted */
 };
 

@@ -29,6 +29,7 @@ static void estimate_probe(void) { jafrelin_estimate_probe(probe, probe_len, pro
 static void compile(void) { jafrelin_compile(task, task_len, probe, sizeof probe); }
 static void expand(void) { jafrelin_expand(task, task_len, plan, actions, list, JAFRELIN_PROBE_MAX_LIST); }
 static void contract(void) { jafrelin_contract(task, task_len, list, steps, back, JAFRELIN_TASK_MAX_LIST); }
+static void sheet(void) { jafrelin_sheet(task, task_len, plan, actions, text, sizeof text); }
 static void charge(void) { jafrelin_charge(UINT32_MAX); }
 static void show(void) { jafrelin_show(task, task_len, text, sizeof text); }
 static void draw(void) { jafrelin_draw(task, task_len, text, sizeof text); }
@@ -53,6 +54,7 @@ static struct {
     {"compile", compile, JAFRELIN_STACK_COMPILE, 0},
     {"expand", expand, JAFRELIN_STACK_EXPAND, 0},
     {"contract", contract, JAFRELIN_STACK_CONTRACT, 0},
+    {"sheet", sheet, JAFRELIN_STACK_SHEET, 0},
     {"charge", charge, JAFRELIN_STACK_CHARGE, 0},
     {"show", show, JAFRELIN_STACK_SHOW, 0},
     {"draw", draw, JAFRELIN_STACK_DRAW, 0},

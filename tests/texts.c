@@ -1,14 +1,18 @@
-/* The texts of a task file: in words, all of its cost diagrams, that of action 0, and the trace of the list 0 1 2, the last two where there are actions; each in a buffer that is just long enough, after one that is too short. */
+/* The texts of a task file: in words, all of its cost diagrams, the sheet of the plan that the arguments behind it are, the diagram of action 0, and the trace of the list 0 1 2, the last two where there are
+ * actions; each in a buffer that is just long enough, after one that is too short. */
 #include <jafrelin.h>
 #include <stdio.h>
+#include <stdlib.h>
 #include <string.h>
 
 static uint8_t task[JAFRELIN_TASK_MAX_BYTES + 1], text[JAFRELIN_TEXT_MAX_BYTES];
 static const uint16_t list[] = {0, 1, 2};
-static size_t task_len;
+static uint16_t plan[JAFRELIN_TASK_MAX_LIST];
+static size_t task_len, plan_len;
 
 static uint64_t show(size_t room) { return jafrelin_show(task, task_len, text, room); }
 static uint64_t draw(size_t room) { return jafrelin_draw(task, task_len, text, room); }
+static uint64_t sheet(size_t room) { return jafrelin_sheet(task, task_len, plan, plan_len, text, room); }
 static uint64_t draw_action(size_t room) { return jafrelin_draw_action(task, task_len, 0, text, room); }
 static uint64_t trace(size_t room) { return jafrelin_trace(task, task_len, list, 3, 0, text, room); }
 
@@ -27,13 +31,15 @@ static int put(uint64_t (*write)(size_t))
 
 int main(int argc, char **argv)
 {
-    FILE *in = argc == 2 ? fopen(argv[1], "rb") : NULL;
+    FILE *in = argc > 1 ? fopen(argv[1], "rb") : NULL;
     if (!in)
         return 2;
     task_len = fread(task, 1, sizeof task, in);
     fclose(in);
+    for (int i = 2; i < argc && plan_len < JAFRELIN_TASK_MAX_LIST; i++)
+        plan[plan_len++] = (uint16_t)strtoul(argv[i], NULL, 10);
     /* the blank task may come with any pointer */
     if (!task_len && jafrelin_show(NULL, 0, text, sizeof text) != show(sizeof text))
         return 1;
-    return put(show) || put(draw) || (task_len && (put(draw_action) || put(trace)));
+    return put(show) || put(draw) || put(sheet) || (task_len && (put(draw_action) || put(trace)));
 }

@@ -25,7 +25,8 @@ pub record RefusalsWriteNothing : Type 0 where
 
 -- ---- the proofs
 
-carry-writes-none : (carried : Read (List ℕ × ℕ)) → Untouched (λ out. answerIn (length out) carried) (λ out. bufferIn out carried)
+-- whatever is carried, or written at a sum
+pub carry-writes-none : (carried : Read (List ℕ × ℕ)) → Untouched (λ out. answerIn (length out) carried) (λ out. bufferIn out carried)
 carry-writes-none carried out n p h = unwritten (listOf carried) out (sym (answer-length (length out) carried) ∙ ap (withValue (λ (c : ℕ × ℕ). c .0)) h)
 
 -- Demand 1: of every file, list and text, and every buffer.

@@ -1,10 +1,10 @@
 -- How large the answers of the operations can be, for every file, list, state and buffer: each place, and each length, cost, sum and exact estimate.
-use mathlib.Core.Path.{_≡_, refl, sym, _∙_}
+use mathlib.Core.Path.{_≡_, refl}
 use mathlib.Core.Option.{Option, none, some}
 use Prim.Native.Nat.{ℕ, suc, _+_, _*_, _≤_, _<_}
 use native.Mathlib.Nat.{mul-suc, mul-le-mul-left}
 use native.Mathlib.Omega.{arith}
-use mathlib.Core.Bool.{Bool, true, false}
+use mathlib.Core.Bool.{Bool}
 use mathlib.Core.List.{List, [], _∷_, map}
 use lib.Dec.{leb, ltb, eqb}
 use lib.ListN.{length, getElem?}
@@ -17,15 +17,15 @@ use Rattle.facts.specs.Bytes.{Bytes}
 use Rattle.facts.specs.Partial.{Partial, holds}
 use Rattle.facts.specs.State.{Inside, checkEach, checkWith, checkState}
 use Rattle.facts.specs.StateLaws.{state-inside}
-use Rattle.facts.specs.Run.{Move, next, blocked, attempt, moved, runFrom, atMost}
-use Rattle.facts.specs.RunLaws.{attempt-next, attempt-blocked, not-blocked}
+use Rattle.facts.specs.Run.{Move, next, blocked, moved, runFrom, atMost}
+use Rattle.facts.specs.RunLaws.{attempt-cost, not-blocked}
 use Rattle.estimate.specs.Number.{Number, WithinCap}
 use Rattle.estimate.specs.Additive.{estimateFile}
 use Rattle.estimate.specs.AdditiveLaws.{additive-within}
-use Rattle.taskfile.specs.Task.{Action, Task, Walk, maxVariables, maxBytes, maxWritten, maxList, maxCost, walk, cost, perform, actionMove, taskSum}
+use Rattle.taskfile.specs.Task.{Action, Task, Walk, maxVariables, maxBytes, maxWritten, maxList, maxCost, walk, cost, actionMove, taskSum}
 use Rattle.taskfile.specs.TaskFile.{readTask, checkTask, actionOf, askTask, costTask, runTask, sumTask}
 use Rattle.taskfile.specs.TaskReadLaws.{task-wf, task-limits}
-use Rattle.taskfile.specs.TaskLaws.{attempt-inside, accepted-passed, accepted-cost}
+use Rattle.taskfile.specs.TaskLaws.{accepted-passed, accepted-cost, action-kept}
 use Rattle.probefile.specs.Probe.{Step, Probe, stepMove, probeSum, WfStep, WfProbe}
 use Rattle.probefile.specs.Probe.{maxList as maxProbeList, perform as performStep}
 use Rattle.probefile.specs.ProbeFile.{readProbe, checkProbe, writeProbe, runProbe}
@@ -156,14 +156,6 @@ moved-within : (m : Move) (i most : ℕ) → i ≤ most → Within (λ q. m ≡ 
 moved-within (next s c) i most l = value refl
 moved-within blocked i most l = place l
 
--- what an attempt costs is what it was said to cost
-attempt-cost : (pre eff : Partial) (paid : ℕ) (s : List ℕ) {e : List ℕ} {c : ℕ} → attempt pre eff paid s ≡ next e c → c ≡ paid
-attempt-cost pre eff paid s {e} {c} h = go (holds pre s) refl
-  where
-    go : (b : Bool) → holds pre s ≡ b → c ≡ paid
-    go true g = cc (attempt-next pre eff paid s g)
-    go false g = absurd (not-blocked (sym (attempt-blocked pre eff paid s g) ∙ h))
-
 -- Where each move from a state of this kind leads to another and costs at most `dear`, a list of at most `most` entries is refused at `most` at most, and has at most `limit` as its sum.
 module _ (count : ℕ) (move : ℕ → List ℕ → Move) (goal : Partial) (P : List ℕ → Type 0) (dear : ℕ) (kept : (a : ℕ) (s e : List ℕ) (c : ℕ) → P s → move a s ≡ next e c → P e × (c ≤ dear)) where
   run-range : (most limit : ℕ) (list s : List ℕ) (i sum : ℕ) → P s → i + length list ≤ most → sum + dear * length list ≤ limit → Within (λ c. c ≤ limit) most (runFrom count move goal i sum list s)
@@ -194,19 +186,9 @@ abbrev pub mostPassed : ℕ
 mostPassed = 6144
 
 module _ (f : List ℕ) (bytes : Bytes f) {t : Task} (h : readTask f ≡ accepted t) where
-  action-kept : (a : ℕ) (s e : List ℕ) (c : ℕ) → Inside (t .sizes) s → actionMove (t .actions) a s ≡ next e c → Inside (t .sizes) e × (c ≤ maxCost)
-  unfolding actionMove
-  action-kept a s e c inside m = go (getElem? (t .actions) a) refl m
-    where
-      go : (o : Option Action) → getElem? (t .actions) a ≡ o → elim o as (λ o. Move) [ none ↦ blocked | some x ↦ perform x s ] ≡ next e c → Inside (t .sizes) e × (c ≤ maxCost)
-      go none q m = absurd (not-blocked m)
-      go (some x) q m =
-          let k = found (t .actions) a q in
-          (attempt-inside (task-wf f h .actions k) s inside (cost x s) m, omega (arith, attempt-cost (x .pre) (x .eff) (cost x s) s m, accepted-cost f h k s inside bytes))
-
   task-sum-range : (list : List ℕ) → Within (λ c. c ≤ mostOfTask) maxList (_>>=_ (atMost maxList list) (λ u. taskSum t list))
   unfolding taskSum
-  task-sum-range list = list-range (length (t .actions)) (actionMove (t .actions)) (t .goal) (Inside (t .sizes)) maxCost action-kept maxList mostOfTask list (t .init) (task-wf f h .init) (omega arith)
+  task-sum-range list = list-range (length (t .actions)) (actionMove (t .actions)) (t .goal) (Inside (t .sizes)) maxCost (action-kept f h bytes) maxList mostOfTask list (t .init) (task-wf f h .init) (omega arith)
 
 module _ {y : Probe} (wf : WfProbe y) where
   step-kept : (r : ℕ) (s e : List ℕ) (c : ℕ) → Unit {0} → stepMove (y .steps) r s ≡ next e c → Unit {0} × (c ≤ 65535)
@@ -274,7 +256,7 @@ contracted-range f bytes list =
 abbrev pub Written : ℕ → ℕ → ℕ × ℕ → Type 0
 Written long dear c = (c .0 ≤ long) × (c .1 ≤ dear)
 
-answer-range : {long dear most : ℕ} (room : ℕ) {carried : Read (List ℕ × ℕ)} → long ≤ most → Within (Carried long dear) most carried → Within (Written long dear) most (answerIn room carried)
+pub answer-range : {long dear most : ℕ} (room : ℕ) {carried : Read (List ℕ × ℕ)} → long ≤ most → Within (Carried long dear) most carried → Within (Written long dear) most (answerIn room carried)
 unfolding answerIn
 answer-range room l w = then-within _ w (λ c h g. made-within (λ (n : ℕ). (n, c .1)) (length-range room l (value (g .0))) (λ n e k. (k, g .1)))
 

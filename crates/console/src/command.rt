@@ -18,6 +18,7 @@ pub enum Command {
     Draw,
     Steps,
     Charge,
+    Sheet,
     Unknown,
 }
 
@@ -26,7 +27,7 @@ pub fn first_word(dot: bool) -> Command {
     let mut word = io::buffer();
     let n = os::arg(1, &mut word);
     let commands: &[u8] =
-        b"check compile cost relaxed run follow expand contract estimate show steps charge ";
+        b"check compile cost relaxed run follow expand contract estimate show steps charge sheet ";
     match number_in(commands, &word[..n]) {
         0 => Command::Check,
         1 => Command::Compile,
@@ -40,6 +41,7 @@ pub fn first_word(dot: bool) -> Command {
         9 => shown(dot),
         10 => Command::Steps,
         11 => Command::Charge,
+        12 => Command::Sheet,
         _ => Command::Unknown,
     }
 }
@@ -82,6 +84,7 @@ pub fn shape_of(command: Command, count: usize) -> Shape {
         Command::Draw => shaped(Name::Task, Name::Action, Name::Action, 1, 2),
         Command::Steps => shaped(Name::Task, Name::List, Name::List, 1, 2),
         Command::Charge => shaped(Name::Sum, Name::Sum, Name::Sum, 1, 1),
+        Command::Sheet => shaped(Name::Task, Name::Plan, Name::Plan, 1, 2),
         Command::Unknown => shaped(Name::File, Name::File, Name::File, 1, 0),
     }
 }
@@ -117,6 +120,7 @@ pub fn refusal_stream(command: Command, behind: u8) -> i32 {
         Command::Expand => libc::STDERR_FILENO,
         Command::Contract => libc::STDERR_FILENO,
         Command::Draw => libc::STDERR_FILENO,
+        Command::Sheet => libc::STDERR_FILENO,
         Command::Compile => compiled_stream(behind),
         _ => libc::STDOUT_FILENO,
     }

@@ -34,6 +34,14 @@ attempt-length pre eff cost s {e} {c} h = go (holds pre s) refl
     go true g = let same : apply eff s ≡ e = cc (attempt-next pre eff cost s g) in rw (← same) (length-apply eff s)
     go false g = absurd (not-blocked (sym (attempt-blocked pre eff cost s g) ∙ h))
 
+-- what applies costs what it was said to cost
+pub attempt-cost : (pre eff : Partial) (cost : ℕ) (s : List ℕ) {e : List ℕ} {c : ℕ} → attempt pre eff cost s ≡ next e c → c ≡ cost
+attempt-cost pre eff cost s {e} {c} h = go (holds pre s) refl
+  where
+    go : (b : Bool) → holds pre s ≡ b → c ≡ cost
+    go true g = cc (attempt-next pre eff cost s g)
+    go false g = absurd (not-blocked (sym (attempt-blocked pre eff cost s g) ∙ h))
+
 moved-next : (m : Move) (i : ℕ) {s : List ℕ} {c : ℕ} → moved m i ≡ accepted (s, c) → m ≡ next s c
 moved-next (next s c) i h = cc (value-of h, next-of h)
 moved-next blocked i h = absurd (not-refused h)

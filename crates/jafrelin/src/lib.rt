@@ -14,6 +14,7 @@ ghost use Rattle.carry.specs.CarryFile.{expanded, contracted, answerIn, bufferI
 ghost use Rattle.words.specs.DescribeFile.{shown, drawn, drawnAction};
 ghost use Rattle.trace.specs.TraceFile.{traced};
 ghost use Rattle.sentence.specs.Sentence.{subjectOf, sentence};
+ghost use Rattle.sheet.specs.SheetFile.{sheetOf};
 ghost use Rattle.charge.specs.Charge.{chargeOf};
 ghost use Rattle.packing.specs.Packing.{packedCheck, packedSum, packedWalk, packedLength, packedList, packedEstimate, refusalOf, placeOf};
 
@@ -106,6 +107,15 @@ pub extern "C" fn jafrelin_contract(file: &[u8], list: &[u16], out: &mut [u16]) 
     ensures { λ r. ⌜ now (out .exit) ≡ bufferIn (now (out .entry)) (contracted (now (file .entry)) (now (list .entry))) ⌝ }
 {
     packing::carried(contract::contract(file, list, out))
+}
+
+// The sheet of a plan, written into a buffer.
+#[no_mangle]
+pub extern "C" fn jafrelin_sheet(file: &[u8], plan: &[u16], out: &mut [u8]) -> u64
+    ensures { λ r. ⌜ r ≡ packedList (answerIn (length (now (out .entry))) (sheetOf (now (file .entry)) (now (plan .entry)))) ⌝ }
+    ensures { λ r. ⌜ now (out .exit) ≡ bufferIn (now (out .entry)) (sheetOf (now (file .entry)) (now (plan .entry))) ⌝ }
+{
+    packing::sheeted(sheet::sheet(file, plan, out))
 }
 
 // The charge for a sum, in cents.

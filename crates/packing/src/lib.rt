@@ -6,6 +6,7 @@ use estimate::Estimated;
 use facts::Checked;
 use facts::Ran;
 use facts::Refusal;
+use sheet::Sheeted;
 use taskfile::Costed;
 use taskfile::Tallied;
 use words::Described;
@@ -17,6 +18,7 @@ ghost use Rattle.estimate.specs.Answers.{estimatedAnswer};
 ghost use Rattle.taskfile.specs.Answers.{talliedAnswer, costedAnswer};
 ghost use Rattle.compilation.specs.CompileFile.{compiledAnswer};
 ghost use Rattle.carry.specs.Answers.{carriedAnswer};
+ghost use Rattle.sheet.specs.SheetFile.{sheetedAnswer};
 ghost use Rattle.words.specs.Answers.{describedAnswer};
 ghost use Rattle.packing.specs.Packing.{packed, packedRefusal, packedCheck, packedSum, packedWalk, packedLength, packedList, packedNumber, packedEstimate};
 
@@ -105,6 +107,16 @@ pub fn carried(answer: Carried) -> u64
     match answer {
         Carried::List(length, sum) => pack(0, length as u64, sum as u64),
         Carried::Refused(why) => refusal(why),
+    }
+}
+
+// The length of a sheet that was written, and the plan's sum.
+pub fn sheeted(answer: Sheeted) -> u64
+    ensures { λ r. ⌜ r ≡ packedList (sheetedAnswer answer) ⌝ }
+{
+    match answer {
+        Sheeted::Length(length, sum) => pack(0, length as u64, sum as u64),
+        Sheeted::Refused(why) => refusal(why),
     }
 }
 

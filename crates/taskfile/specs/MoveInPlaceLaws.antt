@@ -112,15 +112,19 @@ module _ (f : List ℕ) {t : Task} (r : readTask (fileOf f) ≡ accepted t) {row
     unfolding moveBy
     move-in-place a s l inside = perform-in-place f (loc .lies t r a (getD (t .actions) a nothing) (at-action a l)) s inside measure
 
-    -- the runs agree
+    -- the moves agree in a state of the task
+    pub move-same : (a : ℕ) (s : List ℕ) → a < count → Inside (t .sizes) s → moveBy measure f row a s ≡ move a s
+    move-same a s l inside = move-in-place a s l inside ∙ sym (does a (getD (t .actions) a nothing) s (at-action a l))
+
+    -- and lead to one
+    pub move-inside : (a : ℕ) (s e : List ℕ) (c : ℕ) → a < count → Inside (t .sizes) s → moveBy measure f row a s ≡ next e c → Inside (t .sizes) e
+    move-inside a s e c l inside h = attempt-inside (task-wf _ r .actions (at-action a l)) s inside (measure (walk (getD (t .actions) a nothing) s)) (sym (move-in-place a s l inside) ∙ h)
+
+    -- so the runs agree
     run-in-place : (goal : ℕ) (list init : List ℕ) → init ≡ t .init → partialAt f goal ≡ t .goal
         → runFrom (count) (moveBy measure f row) (partialAt f goal) 0 0 list init ≡ runFrom (length (t .actions)) move (t .goal) 0 0 list (t .init)
     run-in-place goal list init i g =
-        rw (i, g)
-        (run-same (count) (moveBy measure f row) move (t .goal) (Inside (t .sizes))
-        (λ a s l i. move-in-place a s l i ∙ sym (does a (getD (t .actions) a nothing) s (at-action a l)))
-        (λ a s e c l i h. attempt-inside (task-wf _ r .actions (at-action a l)) s i (measure (walk (getD (t .actions) a nothing) s)) (sym (move-in-place a s l i) ∙ h))
-        list (t .init) 0 0 (task-wf _ r .init))
+        rw (i, g) (run-same (count) (moveBy measure f row) move (t .goal) (Inside (t .sizes)) move-same move-inside list (t .init) 0 0 (task-wf _ r .init))
         ∙ ap (λ (n : ℕ). runFrom n move (t .goal) 0 0 list (t .init)) all
 
   -- a run by the offsets is one of the actions that were read, in its sum and in the nodes passed

@@ -4,6 +4,7 @@ use mathlib.Core.Logic.{_↔_}
 use mathlib.Core.Option.{Option, none, some}
 use Prim.Native.Nat.{ℕ, _≤_, _<_}
 use native.Mathlib.Nat.{le-trans}
+use native.Mathlib.Omega.{arith}
 use mathlib.Core.Bool.{Bool, true, false}
 use mathlib.Core.List.{List}
 use lib.ListN.{length, getElem?}
@@ -15,7 +16,7 @@ use Rattle.facts.specs.Partial.{holds, apply}
 use Rattle.facts.specs.PartialLaws.{apply-inside}
 use Rattle.facts.specs.State.{Inside}
 use Rattle.facts.specs.Run.{Move, next, blocked, attempt}
-use Rattle.facts.specs.RunLaws.{attempt-next, attempt-blocked, not-blocked, plan-answers}
+use Rattle.facts.specs.RunLaws.{attempt-next, attempt-blocked, attempt-cost, not-blocked, plan-answers}
 use Rattle.taskfile.specs.Task.{Action, Task, maxVariables, maxCost, walk, cost, perform, actionMove, actionPasses, taskSum, Plan, WfAction}
 use Rattle.taskfile.specs.TaskFile.{readTask}
 use Rattle.taskfile.specs.WalkLaws.{passed-most, cost-most}
@@ -66,3 +67,15 @@ module _ (f : List ℕ) {t : Task} (h : readTask f ≡ accepted t) {a : ℕ} {x 
   -- and costs at most 1,638,375
   pub accepted-cost : Bytes f → cost x s ≤ maxCost
   accepted-cost bytes = cost-most (task-wf f h .actions action) s inside (task-weights f h bytes action) (task-limits f h .variables)
+
+-- ---- what action number a of an accepted file does in a state inside the domains: it leads to another, and costs at most 1,638,375
+
+pub action-kept : (f : List ℕ) {t : Task} → readTask f ≡ accepted t → Bytes f → (a : ℕ) (s e : List ℕ) (c : ℕ) → Inside (t .sizes) s → actionMove (t .actions) a s ≡ next e c → Inside (t .sizes) e × (c ≤ maxCost)
+unfolding actionMove
+action-kept f {t} h bytes a s e c inside m = go (getElem? (t .actions) a) refl m
+  where
+    go : (o : Option Action) → getElem? (t .actions) a ≡ o → elim o as (λ o. Move) [ none ↦ blocked | some x ↦ perform x s ] ≡ next e c → Inside (t .sizes) e × (c ≤ maxCost)
+    go none q m = absurd (not-blocked m)
+    go (some x) q m =
+        let k = found (t .actions) a q in
+        (attempt-inside (task-wf f h .actions k) s inside (cost x s) m, omega (arith, attempt-cost (x .pre) (x .eff) (cost x s) s m, accepted-cost f h k s inside bytes))

@@ -1,4 +1,5 @@
 // The commands on a file that was read. Each gets its bytes, the number of its next argument, and what is asked for.
+use crate::describing::sheet;
 use crate::describing::steps;
 use crate::failing;
 use crate::saving::save;
@@ -71,7 +72,7 @@ pub fn compile(file: &[u8], next: usize, asked: Asked) {
     }
 }
 
-// `run`, `follow`, `expand`, `contract`, `steps`: a command on the list that its next argument names.
+// `run`, `follow`, `expand`, `contract`, `sheet`, `steps`: a command on the list that its next argument names.
 pub fn on_list(asked: Asked, file: &[u8], next: usize) {
     let mut entries = [0; LIST];
     let given = read_list(next, &mut entries);
@@ -86,6 +87,7 @@ pub fn on_list(asked: Asked, file: &[u8], next: usize) {
         Command::Follow => follow(file, list, asked),
         Command::Expand => expand(file, list, asked),
         Command::Contract => contract(file, list, asked),
+        Command::Sheet => sheet(file, list, asked),
         _ => steps(file, list, asked),
     }
     if asked.explain {
@@ -101,6 +103,7 @@ fn explain_list(asked: Asked, file: &[u8], list: &[u16]) {
         Command::Follow => failing::on_probe(asked, file, list),
         Command::Expand => failing::on_task(asked, file, list),
         Command::Contract => failing::on_compiled(asked, file, list),
+        Command::Sheet => failing::on_task(asked, file, list),
         _ => {}
     }
 }

@@ -1,4 +1,4 @@
-// The commands that describe a task, a probe file or a probe list in words.
+// The commands that describe a task, a probe file, a plan or a probe list in text.
 use console::asking::Asked;
 use console::input::is_given;
 use console::input::read_number;
@@ -6,6 +6,8 @@ use console::output::failed;
 use console::output::refuse;
 use console::output::reply;
 use report::Subject;
+use sheet::MAX_SHEET;
+use sheet::Sheeted;
 use words::Described;
 
 // The most bytes of a task in words and of its diagrams, of a probe file in words, and of the trace of a list: more than any has.
@@ -65,4 +67,15 @@ pub fn steps(file: &[u8], list: &[u16], asked: Asked) {
     let mut text = [0; TRACE_TEXT];
     let answer = trace::trace(file, list, asked.states, &mut text);
     described(answer, &text, Subject::List, asked);
+}
+
+// `sheet TASK PLAN`: a line for each action of a plan, and one for the sum.
+pub fn sheet(file: &[u8], list: &[u16], asked: Asked) {
+    let mut text = [0; MAX_SHEET];
+    match sheet::sheet(file, list, &mut text) {
+        Sheeted::Length(n, _) => {
+            reply(&text, n);
+        }
+        Sheeted::Refused(why) => refuse(asked, Subject::List, why),
+    }
 }

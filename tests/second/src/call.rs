@@ -17,6 +17,7 @@ pub enum Operation {
     Compile,
     Expand,
     Contract,
+    Sheet,
 }
 
 /// A call of an operation; what the operation does not take is empty.
@@ -69,6 +70,7 @@ pub fn second(call: &Call, bytes: &mut [u8], entries: &mut [u16]) -> u64 {
         Operation::Compile => packed(crate::compile(file, bytes).map(|length| (length, 0))),
         Operation::Expand => packed(crate::expand(file, list, entries)),
         Operation::Contract => packed(crate::contract(file, list, entries)),
+        Operation::Sheet => packed(crate::sheet(file, list, bytes)),
     }
 }
 

@@ -313,6 +313,23 @@ pub fn contract(task: &TaskModel, list: &[u16]) -> Answer<(Vec<u16>, u32)> {
     Ok((plan, sum))
 }
 
+/// The sheet of a source plan, line by line, and the sum.
+pub fn sheet(task: &TaskModel, list: &[u16]) -> Answer<(String, u32)> {
+    let (_, sum) = run_task(task, list)?;
+    let mut state = task.initial.clone();
+    let mut running = 0;
+    let mut sheet = String::new();
+    for (index, &number) in list.iter().enumerate() {
+        let action = &task.actions[usize::from(number)];
+        let (_, cost) = cost(action, &state);
+        running += cost;
+        sheet += &format!("{index:>3} {number:>2} {cost:>7} {running:>9}\n");
+        set(&action.effect, &mut state);
+    }
+    sheet += &format!("sum{sum:>21}\n");
+    Ok((sheet, sum))
+}
+
 /// The charge, added up as far as the sum that was asked about last.
 pub struct Charge {
     started: u64,

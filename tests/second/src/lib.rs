@@ -1,8 +1,8 @@
-//! A second implementation of document 01, with document 02's W1, W5, W7 and W13, in plain Rust, written from the documents and not from the proved code, to compare
-//! the proved library with and to measure it by.
+//! A second implementation of document 01, with document 02's W1, W5, W7, W12 and W13, in plain Rust, written from the documents and not from the proved code, to
+//! compare the proved library with and to measure it by.
 //!
-//! `parts`, `reading`, `running`, `writing`, `plans`, `heuristic` and `charge` are the operations. `call` has all that take a file as values, for comparing and
-//! timing; `model`, `definition`, `generate` and `special` serve the tests.
+//! `parts`, `reading`, `running`, `writing`, `plans`, `sheet`, `heuristic` and `charge` are the operations. `call` has all that take a file as values, for
+//! comparing and timing; `model`, `definition`, `generate` and `special` serve the tests.
 
 pub mod call;
 pub mod charge;
@@ -17,6 +17,7 @@ pub mod plans;
 pub mod reading;
 pub mod refusal;
 pub mod running;
+pub mod sheet;
 pub mod special;
 pub mod writing;
 
@@ -26,4 +27,5 @@ pub use plans::{contract, expand};
 pub use reading::{check_probe, check_task};
 pub use refusal::{Answer, Reason, Refusal};
 pub use running::{cost, run_probe, run_task};
+pub use sheet::sheet;
 pub use writing::compile;

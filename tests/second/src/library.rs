@@ -26,6 +26,7 @@ unsafe extern "C" {
         out: OutList,
         out_len: usize,
     ) -> u64;
+    fn jafrelin_sheet(file: Bytes, file_len: usize, plan: List, plan_len: usize, out: OutBytes, out_len: usize) -> u64;
     /// The library's charge for a sum, packed.
     pub safe fn jafrelin_charge(sum: u32) -> u64;
 }
@@ -35,6 +36,7 @@ pub fn library(call: &Call, bytes: &mut [u8], entries: &mut [u16]) -> u64 {
     let (file, file_len) = (call.file.as_ptr(), call.file.len());
     let (state, state_len) = (call.state.as_ptr(), call.state.len());
     let (list, list_len) = (call.list.as_ptr(), call.list.len());
+    let (bytes, bytes_len) = (bytes.as_mut_ptr(), bytes.len());
     let (out, out_len) = (entries.as_mut_ptr(), entries.len());
     // SAFETY: every pointer comes with the length of the slice that it is taken from, and the slices outlive the call; the outputs are borrowed alone.
     unsafe {
@@ -47,9 +49,10 @@ pub fn library(call: &Call, bytes: &mut [u8], entries: &mut [u16]) -> u64 {
             Operation::RunProbe => jafrelin_run_probe(file, file_len, list, list_len),
             Operation::EstimateTask => jafrelin_estimate_task(file, file_len, state, state_len),
             Operation::EstimateProbe => jafrelin_estimate_probe(file, file_len, state, state_len),
-            Operation::Compile => jafrelin_compile(file, file_len, bytes.as_mut_ptr(), bytes.len()),
+            Operation::Compile => jafrelin_compile(file, file_len, bytes, bytes_len),
             Operation::Expand => jafrelin_expand(file, file_len, list, list_len, out, out_len),
             Operation::Contract => jafrelin_contract(file, file_len, list, list_len, out, out_len),
+            Operation::Sheet => jafrelin_sheet(file, file_len, list, list_len, bytes, bytes_len),
         }
     }
 }

@@ -1,5 +1,5 @@
-//! Tasks and probe files that are made for one purpose: the documents' own, the longest, those whose paths pass few or many nodes, those whose preconditions raise
-//! a relaxed cost, and those whose estimates are near the limit.
+//! Tasks and probe files that are made for one purpose: the documents' own, the longest, those whose paths pass few or many nodes, one whose costs have every
+//! number of digits, those whose preconditions raise a relaxed cost, and those whose estimates are near the limit.
 
 use crate::model::{ActionModel, Facts, NodeModel, ProbeModel, StepModel, TaskModel};
 use crate::parts::{Probe, Task};
@@ -103,6 +103,35 @@ pub fn layers() -> TaskModel {
         goal: Facts::new(),
         actions,
     }
+}
+
+/// The costs of the actions of `every_width`, lowest first.
+const COSTS: [u32; Task::ACTIONS as usize] = [
+    0, 1, 2, 3, 5, 7, 9, 10, 11, 42, 99, 100, 101, 250, 999, 1_000, 1_001, 1_234, 9_999, 10_000, 10_001, 12_345,
+    56_789, 65_535, 65_536, 99_999, 100_000, 100_001, 234_567, 999_999, 1_000_000, 1_638_375,
+];
+
+/// 32 actions that always apply, with costs of 1 to 7 digits that no state changes: 0 to the greatest cost that there is.
+pub fn every_width() -> TaskModel {
+    TaskModel {
+        sizes: vec![2; usize::from(Task::VARIABLES)],
+        initial: vec![0; usize::from(Task::VARIABLES)],
+        goal: Facts::new(),
+        actions: COSTS.into_iter().map(costing).collect(),
+    }
+}
+
+/// An action of one cost in all states: what its incoming weight leaves is left to its nodes, one a variable.
+fn costing(cost: u32) -> ActionModel {
+    let incoming = cost.min(65_535) as u16;
+    let mut left = cost - u32::from(incoming);
+    let mut nodes = Vec::new();
+    while left > 0 {
+        let (variable, weight) = (nodes.len() as u8, left.min(65_535) as u16);
+        nodes.push(NodeModel { variable, edges: vec![(variable + 2, weight); 2] });
+        left -= u32::from(weight);
+    }
+    ActionModel { incoming, nodes, ..ActionModel::default() }
 }
 
 /// The longest path with weights that grow with the value, and the greatest value of so many variables in the precondition: each of these adds 7 to the least cost.

@@ -150,6 +150,7 @@ fn every_operation(input: &Input) {
         Call::on(Operation::Compile, file),
         Call::on(Operation::Expand, file).list(list),
         Call::on(Operation::Contract, file).list(&steps),
+        Call::on(Operation::Sheet, file).list(list),
         Call::on(Operation::CheckProbe, &probe),
         Call::on(Operation::RunProbe, &probe).list(&steps),
         Call::on(Operation::EstimateProbe, &probe).state(&probe_state),
@@ -227,6 +228,7 @@ fn growth() {
         row(&Call::on(Operation::RunTask, &file).list(&list), &name);
         row(&expanded, &name);
         row(&Call::on(Operation::Contract, &file).list(&steps), &name);
+        row(&Call::on(Operation::Sheet, &file).list(&list), &name);
     }
     narrowed();
 }

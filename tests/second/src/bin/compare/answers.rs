@@ -3,7 +3,7 @@
 use second::call::{middle, number, Operation};
 
 /// The operations, in the order of their numbers, and the answers that each has.
-const OPERATIONS: [(Operation, &str); 11] = [
+const OPERATIONS: [(Operation, &str); 12] = [
     (Operation::CheckTask, "success 1 2 3 4 5 6"),
     (Operation::CheckProbe, "success 1 2 3 4 5"),
     (Operation::Cost, "success 1 2 3 4 5 6 11 12"),
@@ -15,6 +15,7 @@ const OPERATIONS: [(Operation, &str); 11] = [
     (Operation::Compile, "success 1 2 3 4 5 6 7"),
     (Operation::Expand, "success 1 2 3 4 5 6 7 8 9 10 11"),
     (Operation::Contract, "success 1 2 3 4 5 6 7 8 9 10 11"),
+    (Operation::Sheet, "success 1 2 3 4 5 6 7 8 9 10 11"),
 ];
 
 /// The columns of the table of answers: success, estimates that are over or never; then refusals by number.
@@ -23,7 +24,8 @@ const REFUSED: [u8; 13] = [1, 2, 3, 4, 5, 6, 7, 8, 9, 10, 11, 12, 17];
 const COLUMNS: usize = ACCEPTED.len() + REFUSED.len();
 
 /// The situations in which relaxed costs are asked for: what precondition and nodes there are, and whether the sets have the precondition's values or lack some.
-/// Then those in which nodes are passed: how many, and which, on the path of one action; how many in a run.
+/// Then those in which nodes are passed: how many, and which, on the path of one action; how many in a run. Then those of sheets: how many lines, and which
+/// numbers; and where a list is found to be no plan after its last action, with room for the sheet.
 #[derive(Clone, Copy)]
 pub enum Situation {
     NoPrecondition,
@@ -47,6 +49,11 @@ pub enum Situation {
     AllPassedInRun,
     FewerPassedInRun,
     MostInRun,
+    NoLines,
+    MostLines,
+    CostsNothing,
+    AllWidest,
+    RefusedAtEnd,
 }
 
 /// The situations in words, in their order.
@@ -75,13 +82,20 @@ const PASSED: [&str; 11] = [
     "a run: fewer nodes than its diagrams have",
     "a run: 6,144 nodes",
 ];
-const SITUATIONS: [(&str, &[&str]); 2] = [("relaxed costs", &RELAXED), ("nodes passed", &PASSED)];
+const SHEETS: [&str; 5] = [
+    "an empty plan",
+    "a plan of 256 actions",
+    "an action that costs 0",
+    "every number of a line at its widest",
+    "refused after the last action, with room",
+];
+const SITUATIONS: [(&str, &[&str]); 3] = [("relaxed costs", &RELAXED), ("nodes passed", &PASSED), ("sheets", &SHEETS)];
 
 /// The counts.
 #[derive(Default)]
 pub struct Answers {
     given: [[usize; COLUMNS]; OPERATIONS.len()],
-    met: [usize; RELAXED.len() + PASSED.len()],
+    met: [usize; RELAXED.len() + PASSED.len() + SHEETS.len()],
 }
 
 impl Answers {

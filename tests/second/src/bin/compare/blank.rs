@@ -1,10 +1,11 @@
 //! Document 02's W1: the blank task, whose file has zero bytes, asked about by every operation, and its probe file, the answers written out; and the files near it,
 //! which are refused as before.
 
-use crate::comparison::Comparison;
-use crate::document::{bytes, file, list, never, plain, refusal, sum};
+use crate::comparison::{Comparison, Written};
+use crate::document::{bytes, file, list, never, plain, refusal, sheet, sum};
 use crate::exercise;
 use crate::kinds::{every_damage, on_task};
+use crate::sheet::LINE;
 use second::call::{Call, Operation};
 use second::definition;
 use second::generate::Random;
@@ -22,7 +23,7 @@ const PROBE: &str = "02 | 02 02 | 00 00 | 02 0* 00 | 00 00";
 const COUNTED: &str = "01 02 00 | 00 0* | 00";
 
 /// The operations on tasks, and those on probe files.
-const ON_TASKS: [Operation; 8] = [
+const ON_TASKS: [Operation; 9] = [
     Operation::CheckTask,
     Operation::Cost,
     Operation::RelaxedCost,
@@ -31,12 +32,13 @@ const ON_TASKS: [Operation; 8] = [
     Operation::Compile,
     Operation::Expand,
     Operation::Contract,
+    Operation::Sheet,
 ];
 const ON_PROBES: [Operation; 3] = [Operation::CheckProbe, Operation::RunProbe, Operation::EstimateProbe];
 
 /// Whether an operation writes a result into a buffer.
 fn writes(operation: Operation) -> bool {
-    matches!(operation, Operation::Compile | Operation::Expand | Operation::Contract)
+    matches!(operation, Operation::Compile | Operation::Expand | Operation::Contract | Operation::Sheet)
 }
 
 /// The blank task, its probe file, and the files near it.
@@ -45,7 +47,12 @@ pub fn cases(comparison: &mut Comparison) {
     compiled(comparison);
     actions(comparison);
     estimates(comparison);
-    let lists = [(Operation::RunTask, Task::LIST), (Operation::Expand, Task::LIST), (Operation::Contract, Probe::LIST)];
+    let lists = [
+        (Operation::RunTask, Task::LIST),
+        (Operation::Expand, Task::LIST),
+        (Operation::Contract, Probe::LIST),
+        (Operation::Sheet, Task::LIST),
+    ];
     for (operation, limit) in lists {
         every_list(comparison, &Call::on(operation, BLANK), limit);
     }
@@ -107,8 +114,8 @@ fn estimates(comparison: &mut Comparison) {
     }
 }
 
-/// Lists where there is no action or step, and buffers of 0 to 2 entries for what comes of them: the empty one is a plan of sum 0, and nothing is written; others are
-/// refused by 11 at 0, and by 8 over the limit.
+/// Lists where there is no action or step, and buffers for what comes of them, of every length up to 2 more than needed: the empty one is a plan of sum 0; others
+/// are refused by 11 at 0, and by 8 over the limit.
 fn every_list(comparison: &mut Comparison, call: &Call, limit: usize) {
     let mut lists: Vec<Vec<u16>> = (0..=Probe::STEPS + 1).chain([65_535]).map(|entry| vec![entry]).collect();
     for first in [0, 1, 65_535] {
@@ -119,13 +126,26 @@ fn every_list(comparison: &mut Comparison, call: &Call, limit: usize) {
     }
     lists.extend((2..=Task::LIST + 2).map(|length| vec![0; length]));
     lists.extend((Probe::LIST - 1..=Probe::LIST + 2).chain([65_536]).map(|length| vec![0; length]));
-    let most_room = if writes(call.operation) { 2 } else { 0 };
+    let most_room = match call.operation {
+        Operation::Sheet => LINE + 2,
+        operation if writes(operation) => 2,
+        _ => 0,
+    };
     for room in 0..=most_room {
-        comparison.document("the empty list", &call.list(&[]), room, list(&[], 0));
+        comparison.document("the empty list", &call.list(&[]), room, of_empty_list(call.operation, room));
         for list in &lists {
             let wanted = if list.len() > limit { refusal(8, limit) } else { refusal(11, 0) };
             comparison.document("a list that is not empty", &call.list(list), room, wanted);
         }
+    }
+}
+
+/// What comes of the empty list in a buffer of a length: its sheet is one line, and nothing else is written.
+fn of_empty_list(operation: Operation, room: usize) -> Written {
+    match operation {
+        Operation::Sheet if room < LINE => refusal(7, LINE),
+        Operation::Sheet => sheet("sum                    0\n", 0),
+        _ => list(&[], 0),
     }
 }
 
@@ -184,7 +204,7 @@ fn all_refuse(
             Operation::CheckTask | Operation::CheckProbe | Operation::Compile => vec![call],
             _ => vec![call, call.list(&[0]).state(&[0]), call.list(&[0; Probe::LIST + 1]).state(&[2, 2]).action(1)],
         };
-        let rooms: &[usize] = if writes(operation) { &[0, 18] } else { &[0] };
+        let rooms: &[usize] = if writes(operation) { &[0, 18, 50] } else { &[0] };
         for call in calls {
             for &room in rooms {
                 comparison.document(name, &call, room, refusal(number, place));

@@ -55,8 +55,9 @@ fn on_task(call: &Call, task: &TaskModel) -> Option<Answer<Written>> {
             Err(refusal) => Err(refusal),
         },
         Operation::RunTask => definition::run_task(task, call.list).map(number),
-        Operation::Compile => Ok(file(definition::compile(task).bytes())),
+        Operation::Compile => Ok(bytes((definition::compile(task).bytes(), 0))),
         Operation::Expand => definition::expand(task, call.list).map(list),
+        Operation::Sheet => definition::sheet(task, call.list).map(|(sheet, sum)| bytes((sheet.into(), sum))),
         _ => definition::contract(task, call.list).map(list),
     })
 }
@@ -114,9 +115,9 @@ fn number(parts: (usize, u32)) -> Written {
     Written { answer: packed(Ok(parts)), bytes: Vec::new(), entries: Vec::new() }
 }
 
-/// An answer that writes a file.
-fn file(bytes: Vec<u8>) -> Written {
-    Written { answer: packed(Ok((bytes.len(), 0))), bytes, entries: Vec::new() }
+/// An answer that writes a file or a sheet.
+fn bytes((bytes, sum): (Vec<u8>, u32)) -> Written {
+    Written { answer: packed(Ok((bytes.len(), sum))), bytes, entries: Vec::new() }
 }
 
 /// An answer that writes a list.

@@ -63,6 +63,11 @@ pub fn list(entries: &[u16], sum: u32) -> Written {
     Written { entries: entries.to_vec(), ..counted(entries.len(), sum) }
 }
 
+/// The answer that a sheet was written, with its sum.
+pub fn sheet(text: &str, sum: u32) -> Written {
+    Written { bytes: text.into(), ..counted(text.len(), sum) }
+}
+
 /// The answer that a file was written.
 pub fn file(bytes: Vec<u8>) -> Written {
     Written { answer: (bytes.len() as u64) << 32, bytes, entries: Vec::new() }

@@ -2,6 +2,7 @@
 
 use crate::comparison::{Comparison, Written};
 use crate::relaxed::Relaxed;
+use crate::sheet;
 use second::call::{low, middle, number, packed, refused, Call, Operation};
 use second::generate::{damaged_file, damaged_list, Random};
 use second::model::{Facts, ProbeModel, TaskModel};
@@ -64,9 +65,10 @@ pub fn plan(comparison: &mut Comparison, random: &mut Random, file: &[u8], probe
     probe_lists(comparison, random, file, probe, steps);
 }
 
-/// Runs a list of actions and expands it: refused alike, or of the same sum and as long as the actions and the nodes passed say.
+/// Runs a list of actions, asks for its sheet and expands it: refused alike, or of the same sum and as long as the actions and the nodes passed say.
 pub fn expansion(comparison: &mut Comparison, file: &[u8], list: &[u16]) -> Option<Written> {
     let run = comparison.answer(&Call::on(Operation::RunTask, file).list(list));
+    sheet::ask(comparison, file, list, run);
     let expand = Call::on(Operation::Expand, file).list(list);
     let expanded = comparison.every_room(&expand);
     if number(run) != 0 {
@@ -187,7 +189,7 @@ pub fn probe(comparison: &mut Comparison, random: &mut Random, probe: &ProbeMode
     }
 }
 
-/// Asks whether files with random damage are accepted, and what they compile to.
+/// Asks whether files with random damage are accepted, what they compile to, and for the sheet of the empty list.
 pub fn damage(comparison: &mut Comparison, random: &mut Random, operation: Operation, file: &[u8]) {
     let mut damaged = damaged_file(random, file);
     for _ in 0..random.below(3) {
@@ -195,10 +197,12 @@ pub fn damage(comparison: &mut Comparison, random: &mut Random, operation: Opera
     }
     let answer = check(comparison, operation, &damaged);
     if operation == Operation::CheckTask {
-        let call = Call::on(Operation::Compile, &damaged);
-        let compiled = comparison.with_room(&call, 16_384).answer;
-        if number(answer) != 0 {
-            comparison.law("compiling refuses what a check does", &call, answer, compiled);
+        for (operation, room) in [(Operation::Compile, 16_384), (Operation::Sheet, sheet::LINE)] {
+            let call = Call::on(operation, &damaged);
+            let written = comparison.with_room(&call, room).answer;
+            if number(answer) != 0 {
+                comparison.law("refused as a check refuses it", &call, answer, written);
+            }
         }
     }
 }

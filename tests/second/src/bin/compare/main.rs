@@ -14,6 +14,7 @@ mod exercise;
 mod kinds;
 mod passed;
 mod relaxed;
+mod sheet;
 
 use comparison::Comparison;
 use std::env;
@@ -33,6 +34,7 @@ fn every_kind() {
     let mut comparison = Comparison::new();
     document::cases(&mut comparison);
     blank::cases(&mut comparison);
+    sheet::cases(&mut comparison);
     kinds::tasks(&mut comparison);
     kinds::limits(&mut comparison);
     kinds::tiny_tasks(&mut comparison);
