@@ -26,11 +26,11 @@ abbrev μ-loop : tie.MeasureT-loop
 μ-loop file goal count row list state₀ costs₀ sum₀ i₀ state costs sum i = length list - i
 
 -- the state after an action, and what the action did
-abbrev after : tie.After-apply-action Inv-loop μ-loop → List ℕ
-after c = c .apply-action .last .1 .1 .1 .1 .0
+abbrev after : tie.After-apply-costed Inv-loop μ-loop → List ℕ
+after c = c .apply-costed .last .1 .1 .1 .1 .0
 
-did : (c : tie.After-apply-action Inv-loop μ-loop) → let a = c .before .before .before .before .before .before .before .before .before .before .before .before .before .before .before .args in let l = c .before .before .before .before .before .before .before .before .before .loop in appliedMove (c .apply-action .result .answer) (after c) ≡ moveAt (now (a .file)) (now (a .row)) (getD (now (a .list)) (l .i) 0) (l .state)
-did c = let a = c .before .before .before .before .before .before .before .before .before .before .before .before .before .before .before .args in let l = c .before .before .before .before .before .before .before .before .before .loop in moves (now (a .file)) (now (a .row)) (getD (now (a .list)) (l .i) 0) (l .state) (λ w. w .cost) (c .before .before .before .offset-at2 .ensures) (c .before .before .before .before .before .own-nodes .ensures) (c .apply-action .ensures .0)
+did : (c : tie.After-apply-costed Inv-loop μ-loop) → let a = c .before .before .before .before .before .before .before .before .before .before .before .before .before .before .before .args in let l = c .before .before .before .before .before .before .before .before .before .loop in appliedMove (c .apply-costed .result) (after c) ≡ moveAt (now (a .file)) (now (a .row)) (getD (now (a .list)) (l .i) 0) (l .state)
+did c = let a = c .before .before .before .before .before .before .before .before .before .before .before .before .before .before .before .args in let l = c .before .before .before .before .before .before .before .before .before .loop in moves (now (a .file)) (now (a .row)) (getD (now (a .list)) (l .i) 0) (l .state) (λ w. w .cost) (c .before .before .before .offset-at2 .ensures) (c .before .before .before .before .before .own-nodes .ensures) (c .apply-costed .ensures .0)
 
 -- it applied
 applied : (c : tie.After-answer Inv-loop μ-loop) → let a = c .before .before .before .before .before .before .before .before .before .before .before .before .before .before .before .before .before .before .before .args in let l = c .before .before .before .before .before .before .before .before .before .before .before .before .before .loop in next (after (c .before .before .before .before)) (c .answer .given .0 .0) ≡ moveAt (now (a .file)) (now (a .row)) (getD (now (a .list)) (l .i) 0) (l .state)
@@ -38,7 +38,7 @@ applied c = ap (λ (r : Applied). appliedMove r (after (c .before .before .befor
 
 -- and costs little
 small : (c : tie.After-answer Inv-loop μ-loop) → c .answer .given .0 .0 ≤ maxWalk
-small c = subst (CostMost maxWalk) (c .answer .given .1) (c .before .before .before .before .apply-action .ensures .1 .1 .0)
+small c = subst (CostMost maxWalk) (c .answer .given .1) (c .before .before .before .before .apply-costed .ensures .1)
 
 returns : tie.Need-returns Inv-loop μ-loop
 returns c =
@@ -46,8 +46,8 @@ returns c =
     (running-missing (inv .3) (c .before .before .loop-test .taken) (c .if1 .taken), noting-missing (inv .4) (c .before .before .before .before .before .before .before .before .before .pre .2) (c .before .before .loop-test .taken) (c .if1 .taken))
 
 -- its incoming weight is where the row says
-apply-action-requires : tie.Need-apply-action-requires Inv-loop μ-loop
-apply-action-requires c κs =
+apply-costed-requires : tie.Need-apply-costed-requires Inv-loop μ-loop
+apply-costed-requires c κs =
     let a = c .before .before .before .before .before .before .before .before .before .before .before .before .before .before .args in
     c .before .before .before .offset-at .ensures ∙ c .before .before .before .before .before .before .before .before .before .before .before .before .before .before .pre .0 .incoming (getD (now (a .list)) (c .before .before .before .before .before .before .before .before .loop .i) 0) (c .before .before .before .before .before .if1 .left) ∙ ap (incomingPlace (now (a .file))) (sym (c .before .before .offset-at2 .ensures))
 
@@ -90,7 +90,7 @@ note-costs-spec =
     (λ c. omega (arith, c .before .before .own-nodes .ensures))
     (λ c. omega (arith, c .before .before .own-nodes .ensures))
     (λ c. omega (arith, c .before .before .own-nodes .ensures))
-    apply-action-requires
+    apply-costed-requires
     (λ c. search needs)
     (λ c. search needs)
     (λ c. c .before .before .before .state .given ∙ c .before .before .before .before .before .before .before .before .before .before .before .before .before .loop .inv .1)
