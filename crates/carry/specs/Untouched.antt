@@ -20,13 +20,14 @@ pub record RefusalsWriteNothing : Type 0 where
   pub compiling : (f : List ℕ) → Untouched (λ out. compileFile f (length out)) (compiledBuffer f)
   pub expanding : (f list : List ℕ) → Untouched (λ out. answerIn (length out) (expanded f list)) (λ out. bufferIn out (expanded f list))
   pub contracting : (f list : List ℕ) → Untouched (λ out. answerIn (length out) (contracted f list)) (λ out. bufferIn out (contracted f list))
+  -- whatever is written at a sum: the sheet of a plan
+  pub at-a-sum : (result : Read (List ℕ × ℕ)) → Untouched (λ out. answerIn (length out) result) (λ out. bufferIn out result)
   -- whatever the text: a file in words, its drawings, the trace of a list, why it is no plan, a sentence for a refusal
   pub texts : (text : Read (List ℕ)) → Untouched (λ out. lengthIn (length out) text) (λ out. writtenIn out text)
 
 -- ---- the proofs
 
--- whatever is carried, or written at a sum
-pub carry-writes-none : (carried : Read (List ℕ × ℕ)) → Untouched (λ out. answerIn (length out) carried) (λ out. bufferIn out carried)
+carry-writes-none : (carried : Read (List ℕ × ℕ)) → Untouched (λ out. answerIn (length out) carried) (λ out. bufferIn out carried)
 carry-writes-none carried out n p h = unwritten (listOf carried) out (sym (answer-length (length out) carried) ∙ ap (withValue (λ (c : ℕ × ℕ). c .0)) h)
 
 -- Demand 1: of every file, list and text, and every buffer.
@@ -35,5 +36,6 @@ refusals-write-nothing = record {
   compiling = λ f out n p h. unwritten (probeFileOf f) out h;
   expanding = λ f list. carry-writes-none (expanded f list);
   contracting = λ f list. carry-writes-none (contracted f list);
+  at-a-sum = carry-writes-none;
   texts = λ text out n p h. unwritten text out h;
 }

@@ -24,7 +24,7 @@ use Rattle.taskfile.specs.AnswerLaws.{there, starts, sum-is}
 use Rattle.carry.specs.CarryFile.{answerIn, bufferIn}
 use Rattle.carry.specs.SameSumLaws.{fits-inv}
 use Rattle.carry.specs.LongList.{sum-of-run}
-use Rattle.carry.specs.Untouched.{Untouched, carry-writes-none}
+use Rattle.carry.specs.Untouched.{Untouched, refusals-write-nothing}
 use Rattle.line_writer.specs.Lines.{lastText, linesText, entriesFrom}
 use Rattle.sheet.specs.Sheet.{costsFrom, costs, sheetText}
 use Rattle.sheet.specs.SheetFile.{sheetOf}
@@ -55,7 +55,7 @@ module _ (f list : List ℕ) where
 
   -- A refusal changes no byte of the buffer.
   pub sheet-writes-none : Untouched (λ out. answerIn (length out) (sheetOf f list)) (λ out. bufferIn out (sheetOf f list))
-  sheet-writes-none = carry-writes-none (sheetOf f list)
+  sheet-writes-none = refusals-write-nothing .at-a-sum (sheetOf f list)
 
   -- ---- the ways in which it goes
 

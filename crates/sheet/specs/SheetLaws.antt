@@ -23,7 +23,7 @@ use Rattle.sheet.specs.Sheet.{costsFrom, costs, entries, sheetText}
 use Rattle.line_writer.specs.Columns.{lineBytes, mostSum, Narrow}
 use Rattle.line_writer.specs.LineLaws.{Whole, lines-whole, last-whole}
 use Rattle.sheet.specs.CostLaws.{costs-more, costs-all, costs-same}
-use Rattle.sheet.specs.TellLaws.{Tells, tells}
+use Rattle.sheet.specs.TellLaws.{Tells, tells, Spends, spends}
 
 -- ---- a plan of any task, of any length
 
@@ -31,6 +31,11 @@ use Rattle.sheet.specs.TellLaws.{Tells, tells}
 pub sheet-tells : (t : Task) (list : List ℕ) (c : ℕ) → Plan t list c → Tells 0 0 list c (entries t list)
 unfolding costs
 sheet-tells t list c p = tells (length (t .actions)) (actionMove (t .actions)) (t .goal) (move-known (t .actions)) 0 0 list (t .init) c p
+
+-- The costs are those of the run: each is what its action costs in the state before it.
+pub sheet-spends : (t : Task) (list : List ℕ) (c : ℕ) → Plan t list c → Spends (actionMove (t .actions)) list (t .init) (costs t list)
+unfolding costs
+sheet-spends t list c p = spends (length (t .actions)) (actionMove (t .actions)) (t .goal) (move-known (t .actions)) 0 list (t .init) c p
 
 -- A cost for each entry of the list.
 pub costs-count : (t : Task) (list : List ℕ) (c : ℕ) → Plan t list c → length (costs t list) ≡ length list

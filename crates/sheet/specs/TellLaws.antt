@@ -32,9 +32,18 @@ tells-more {i} {paid} {a} {k} t = record {
   last = t .last;
 }
 
+-- What the entries of a list cost one by one: each applies in the state to which those before it lead from s, and costs there what stands beside it.
+pub data Spends (move : ℕ → List ℕ → Move) : List ℕ → List ℕ → List ℕ → Type 0 where
+  nothing : {s : List ℕ} → Spends move [] s []
+  spent : {a c : ℕ} {list s s′ costs : List ℕ} → move a s ≡ next s′ c → Spends move list s′ costs → Spends move (a ∷ list) s (c ∷ costs)
+
 -- where only numbers below `count` are actions
 module _ (count : ℕ) (move : ℕ → List ℕ → Move) (goal : Partial) (known : (a : ℕ) (s e : List ℕ) (c : ℕ) → move a s ≡ next e c → a < count) where
   pub tells : (i paid : ℕ) (list s : List ℕ) (c : ℕ) → Reaches move goal paid list s c → Tells i paid list c (entriesFrom i paid list (costsFrom count move list s))
   tells i paid [] s c (ends g) = record { indexes = refl; actions = refl; costs = omega arith; last = refl }
   tells i paid (a ∷ list) s c (steps {paid = k} {s′ = s′} m r) =
       subst (λ (cs : List ℕ). Tells i paid (a ∷ list) c (entriesFrom i paid (a ∷ list) cs)) (sym (costs-more count move a list s (known a s s′ k m) m)) (tells-more (tells (suc i) (paid + k) list s′ c r))
+
+  pub spends : (paid : ℕ) (list s : List ℕ) (c : ℕ) → Reaches move goal paid list s c → Spends move list s (costsFrom count move list s)
+  spends paid [] s c (ends g) = nothing
+  spends paid (a ∷ list) s c (steps {paid = k} {s′ = s′} m r) = subst (Spends move (a ∷ list) s) (sym (costs-more count move a list s (known a s s′ k m) m)) (spent m (spends (paid + k) list s′ c r))
