@@ -1,4 +1,6 @@
 // The arguments of a command: how many there have to be, what each is called, and what is wrong with them in words.
+#![tactic(auto)]
+
 pub mod table;
 mod words;
 
@@ -8,7 +10,7 @@ ghost use Rattle.arguments.specs.Arguments.{name_at, fit_of};
 pub use crate::words::{put_hint, put_wrong};
 
 // What an argument is called.
-#[derive(Drop)]
+#[derive(Clone, Copy)]
 pub enum Name {
     File,
     Task,
@@ -22,7 +24,7 @@ pub enum Name {
 }
 
 // The arguments of a command: what the first, the second and the third are called, and how many there are at least and at most.
-#[derive(Drop)]
+#[derive(Clone, Copy)]
 pub struct Shape {
     pub first: Name,
     pub second: Name,

@@ -14,7 +14,7 @@ pub fn number_in(table: &[u8], word: &[u8]) -> usize
             at += 1;
             continue;
         }
-        if check::same(&table[from..at], word) {
+        if &table[from..at] == word {
             return count;
         }
         count += 1;

@@ -4,7 +4,7 @@ pub mod Answers
 -- Laws that the statement rests on.
 pub mod StartLaws
 pub mod SameSumLaws
--- Demand 3 over files, and plans carried across and back.
+-- What demand 3 says over files, and of plans carried across and back; the theorems are in proofs/SameSum.antt.
 pub mod SameSum
 -- Document 02's W7 over files: how long the list is that expanding returns.
 pub mod LongList

@@ -6,9 +6,9 @@ use Rattle.facts.specs.ReadLaws.{through, agree, not_made, with_value_bind}
 use Rattle.facts.specs.Run.{at_most}
 use Rattle.taskfile.specs.Task.{Walk, max_list, task_sum}
 use Rattle.taskfile.specs.TaskFile.{read_task, run_task, sum_task}
-use Rattle.taskfile.specs.TaskReadLaws.{task_wf, task_limits}
+use Rattle.taskfile.proofs.TaskReadLaws.{task_wf, task_limits}
 use Rattle.plans.specs.Carry.{expand}
-use Rattle.plans.specs.LengthLaws.{run_sum, run_counted, expand_entries}
+use Rattle.plans.proofs.LengthLaws.{run_sum, run_counted, expand_entries}
 use Rattle.carry.specs.CarryFile.{expanded, answer_in}
 use Rattle.carry.specs.SameSumLaws.{fits_inv, answer_in_lem, expanded_plan}
 

@@ -3,32 +3,30 @@ use Rattle.std.specs.Prelude.{◌≡◌, refl, ℕ, ◌≤◌, leb, length, take
 use Rattle.std.proofs.Common.{sym, ap, ◌∙◌, le_trans, leb-true}
 use mathlib.Core.List.{List}
 use Rattle.facts.specs.Read.{Read, accepted, refused, with_value}
-use Rattle.facts.specs.ReadLaws.{through, onward, checked, made, value_of_lem, next_of_lem}
+use Rattle.facts.specs.ReadLaws.{through, onward, checked, made}
 use Rattle.facts.specs.Bytes.{Bytes}
 use Rattle.facts.specs.Write.{over, length_in}
 use Rattle.facts.specs.WriteLaws.{length_in_lem, written_in_lem, written_inv}
 use Rattle.facts.specs.Run.{at_most}
 use Rattle.facts.specs.RunLaws.{list_fits}
-use Rattle.taskfile.specs.Task.{Task, max_list, task_sum, Plan, max_written}
+use Rattle.taskfile.specs.Task.{Task, max_list, Plan, max_written}
 use Rattle.taskfile.specs.TaskFile.{read_task}
-use Rattle.taskfile.specs.TaskReadLaws.{task_wf, task_limits}
+use Rattle.taskfile.proofs.TaskReadLaws.{task_wf, task_limits}
 use Rattle.taskfile.specs.TaskLaws.{task_plan}
-use Rattle.probefile.specs.Probe.{probe_sum}
 use Rattle.probefile.specs.Probe.{max_list as maxProbeList}
 use Rattle.probefile.specs.ProbeFile.{read_probe, write_probe}
 use Rattle.probefile.specs.ProbeLaws.{probe_plan}
 use Rattle.compilation.specs.Compile.{probe_of}
-use Rattle.compilation.specs.CompiledLaws.{compiled_reads}
-use Rattle.compilation.specs.CompiledLengthLaws.{compiled_length}
+use Rattle.compilation.proofs.CompiledLaws.{compiled_reads}
+use Rattle.compilation.proofs.CompiledLengthLaws.{compiled_length}
 use Rattle.compilation.specs.CompileFile.{probe_file_of, compile_file, compiled_buffer}
 use Rattle.compilation.specs.CompileFileLaws.{file_of_lem, compiled_from}
 use Rattle.plans.specs.Carry.{expand, contract}
-use Rattle.plans.specs.Forward.{forward}
-use Rattle.plans.specs.Contract.{contract_expand}
-use Rattle.plans.specs.LengthLaws.{expand_fits}
-use Rattle.plans.specs.Plans.{carries}
-use Rattle.carry.specs.CarryFile.{expanded, starts_at_most, contracted, list_of, answer_in, buffer_in}
-use Rattle.carry.specs.StartLaws.{starts_within, starts_kept}
+use Rattle.plans.proofs.Forward.{forward}
+use Rattle.plans.proofs.Contract.{contract_expand}
+use Rattle.plans.proofs.LengthLaws.{expand_fits}
+use Rattle.carry.specs.CarryFile.{expanded, contracted, list_of, answer_in, buffer_in}
+use Rattle.carry.specs.StartLaws.{starts_within}
 
 -- ---- what stands in a buffer
 
@@ -122,50 +120,3 @@ module _ (f : List ℕ) {t : Task} (h : read_task f ≡ accepted t) {list : List
 pub fits_inv : (most : ℕ) (list : List ℕ) {u : Unit {0}} → at_most most list ≡ accepted u → length list ≤ most
 unfolding at_most
 fits_inv most list h = leb-true (length list) most (checked (leb (length list) most) 8 most h)
-
--- a plan of at most 256 actions of the task of f
-record PlanOf (f list : List ℕ) (c : ℕ) : Type 0 where
-  t : Task
-  task : read_task f ≡ accepted t
-  plan : Plan t list c
-  few : length list ≤ max_list
-
--- What is expanded is a plan.
-expanded_inv : (f list : List ℕ) {probe-list : List ℕ} {c : ℕ} → expanded f list ≡ accepted (probe-list, c) → PlanOf f list c
-unfolding expanded
-expanded_inv f list {c = c} h =
-    let a = through (read_task f) h in
-    let b = through (at_most max_list list) a.then in
-    let d = through (task_sum a.got list) b.then in
-    let sum : d.got ≡ c = next_of_lem d.then in
-    record { t = a.got; task = a.first; plan = (task_plan a.got list c).1 (d.first ∙ ap accepted sum); few = fits_inv max_list list b.first }
-
--- What is contracted comes from the plan that is answered.
-contracted_inv : (f probe-list : List ℕ) {list : List ℕ} {c : ℕ} → contracted f probe-list ≡ accepted (list, c) → (q : PlanOf f list c) × (probe-list ≡ expand q.t list)
-unfolding contracted contract
-contracted_inv f probe-list {list} {c} h =
-    let a = through (read_task f) h in
-    let t = a.got in
-    let b = through (at_most maxProbeList probe-list) a.then in
-    let d = through (probe_sum (probe_of t) probe-list) b.then in
-    let e = through (starts_at_most t.actions max_list 0 probe-list) d.then in
-    let same : contract t probe-list ≡ list = value_of_lem e.then in
-    let sum : d.got ≡ c = next_of_lem e.then in
-    let from = (carries t (task_wf f a.first)).contracts probe-list c ((probe_plan (probe_of t) probe-list c).1 (d.first ∙ ap accepted sum)) in (
-      record { t = t; task = a.first; plan = rw same at from.plan; few = rw same at (starts_kept t.actions probe-list max_list 0 e.first) },
-      rw same at from.comes,
-    )
-
--- ---- across and back
-
--- What expanding a list answers, contracted, answers that list.
-pub expanded_back : (f list : List ℕ) {probe-list : List ℕ} {c : ℕ} → expanded f list ≡ accepted (probe-list, c) → contracted f probe-list ≡ accepted (list, c)
-expanded_back f list h =
-    let q = expanded_inv f list h in
-    rw (value_of_lem (sym (expanded_plan f q.task q.plan q.few) ∙ h)) at (contracted_plan f q.task q.plan q.few)
-
--- What contracting a probe list answers, expanded, answers that probe list.
-pub contracted_back : (f probe-list : List ℕ) {list : List ℕ} {c : ℕ} → contracted f probe-list ≡ accepted (list, c) → expanded f list ≡ accepted (probe-list, c)
-contracted_back f probe-list h =
-    let q = contracted_inv f probe-list h in
-    rw q.1 (expanded_plan f q.0.task q.0.plan q.0.few)

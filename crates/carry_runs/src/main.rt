@@ -1,4 +1,6 @@
 // Runs the known cases about plans carried across (document 01) with the code itself; what it writes is compared with the file stdout.
+#![tactic(auto)]
+
 ghost use Rattle.std.specs.Prelude.{◌≡◌, length};
 
 use carry::Carried;
@@ -14,56 +16,56 @@ const REPEATS: usize = Task::MAX_LIST + 1;
 
 const ALLOWED: usize = 3 * Task::MAX_LIST;
 
-fn main() {
-    expansions();
-    contractions();
-    repeats();
+fn main(rt: HostRuntime) {
+    expansions(&rt);
+    contractions(&rt);
+    repeats(&rt);
 }
 
 // P's plans, and lists that are none; the last buffer is too short.
-fn expansions() {
+fn expansions(rt: &impl Print) {
     let once: [u16; 1] = [0];
     let twice: [u16; 2] = [0, 0];
     let none: [u16; 0] = [];
     let missing: [u16; 1] = [1];
     let long: [u16; REPEATS] = [0; REPEATS];
-    show_expanded(&once);
-    show_expanded(&twice);
-    show_expanded(&none);
-    show_expanded(&missing);
-    show_expanded(&long);
+    show_expanded(rt, &once);
+    show_expanded(rt, &twice);
+    show_expanded(rt, &none);
+    show_expanded(rt, &missing);
+    show_expanded(rt, &long);
     let mut short: [u16; 2] = [9; 2];
     let answer = expand::expand(&P, &once, &mut short);
-    show_carried(answer, &short);
+    show_carried(rt, answer, &short);
 }
 
 // Plans of P's probe file, and lists that are none; the last buffer is too short.
-fn contractions() {
+fn contractions(rt: &impl Print) {
     let once: [u16; 3] = [0, 1, 3];
     let twice: [u16; 6] = [0, 1, 3, 0, 2, 3];
     let unmet: [u16; 2] = [0, 1];
     let blocked: [u16; 3] = [0, 2, 3];
     let missing: [u16; 1] = [4];
     let long: [u16; Probe::MAX_LIST + 1] = [0; Probe::MAX_LIST + 1];
-    show_contracted(&once);
-    show_contracted(&twice);
-    show_contracted(&unmet);
-    show_contracted(&blocked);
-    show_contracted(&missing);
-    show_contracted(&long);
+    show_contracted(rt, &once);
+    show_contracted(rt, &twice);
+    show_contracted(rt, &unmet);
+    show_contracted(rt, &blocked);
+    show_contracted(rt, &missing);
+    show_contracted(rt, &long);
     let mut short: [u16; 0] = [];
     let answer = contract::contract(&P, &once, &mut short);
-    show_carried(answer, &short);
+    show_carried(rt, answer, &short);
 }
 
 // P's action 256 times over, and 257 times.
-fn repeats() {
+fn repeats(rt: &impl Print) {
     let list = repeated();
-    show_contracted(&list[..ALLOWED]);
-    show_contracted(&list);
+    show_contracted(rt, &list[..ALLOWED]);
+    show_contracted(rt, &list);
     let mut out: [u16; Task::MAX_LIST] = [9; Task::MAX_LIST];
     let answer = contract::contract(&P, &list[..ALLOWED], &mut out);
-    show_carried(answer, &out);
+    show_carried(rt, answer, &out);
 }
 
 // P's action 257 times over: start, edge, end. The value that its node tests is 0 at first, then 1.
@@ -81,41 +83,41 @@ fn repeated() -> [u16; 3 * REPEATS]
     list
 }
 
-fn show_expanded(list: &[u16]) {
+fn show_expanded(rt: &impl Print, list: &[u16]) {
     let mut out: [u16; 6] = [9; 6];
     let answer = expand::expand(&P, list, &mut out);
-    show_carried(answer, &out);
+    show_carried(rt, answer, &out);
 }
 
-fn show_contracted(list: &[u16]) {
+fn show_contracted(rt: &impl Print, list: &[u16]) {
     let mut out: [u16; 3] = [9; 3];
     let answer = contract::contract(&P, list, &mut out);
-    show_carried(answer, &out);
+    show_carried(rt, answer, &out);
 }
 
 // The answer, and the first entries of the buffer afterwards.
-fn show_carried(answer: Carried, out: &[u16]) {
+fn show_carried(rt: &impl Print, answer: Carried, out: &[u16]) {
     match answer {
-        Carried::Refused(why) => show::refusal(why),
+        Carried::Refused(why) => show::refusal(rt, why),
         Carried::List(length, sum) => {
-            io::print_decimal(1, length as u64);
-            show::count(b" entries, sum", sum);
+            let _ = rt.print(length as u64);
+            show::count(rt, b" entries, sum", sum);
         }
     }
-    show_entry(out, 0);
-    show_entry(out, 1);
-    show_entry(out, 2);
-    show_entry(out, 3);
-    show_entry(out, 4);
-    show_entry(out, 5);
-    io::write_all(1, b"\n");
+    show_entry(rt, out, 0);
+    show_entry(rt, out, 1);
+    show_entry(rt, out, 2);
+    show_entry(rt, out, 3);
+    show_entry(rt, out, 4);
+    show_entry(rt, out, 5);
+    let _ = rt.write_all(b"\n");
 }
 
 // An entry, where there is one.
-fn show_entry(out: &[u16], i: usize) {
+fn show_entry(rt: &impl Print, out: &[u16], i: usize) {
     if i < out.len() {
-        io::write_all(1, b" ");
-        io::print_decimal(1, wide(out[i]));
+        let _ = rt.write_all(b" ");
+        let _ = rt.print(wide(out[i]));
     }
 }
 

@@ -21,13 +21,14 @@ use Rattle.relaxation.specs.FileExamples.{estimate_blank}
 use Rattle.probefile.specs.Probe.{ProbePlan, step_move, probe_sum}
 use Rattle.probefile.specs.ProbeFile.{read_probe, check_probe}
 use Rattle.compilation.specs.Compile.{probe_of, steps_of}
-use Rattle.compilation.specs.CompiledLaws.{compiled_reads}
+use Rattle.compilation.proofs.CompiledLaws.{compiled_reads}
 use Rattle.compilation.specs.CompileFile.{probe_file_of, compile_file, compiled_buffer}
 use Rattle.compilation.specs.CompileFileLaws.{file_of_lem}
 use Rattle.compilation.specs.Examples.{blank_probe, blank_compiled, blank_file, blank_written}
 use Rattle.plans.specs.Carry.{expand, contract}
 use Rattle.carry.specs.CarryFile.{expanded, contracted}
-use Rattle.carry.specs.SameSum.{WrittenFile, AcrossAndBack, same_sum, across_and_back}
+use Rattle.carry.specs.SameSum.{WrittenFile, AcrossAndBack}
+use Rattle.carry.proofs.SameSum.{same_sum, across_and_back}
 
 -- what a list of at least one number, within the limit, is refused by
 abbrev NoSuch : ℕ → (List ℕ → Type 0) → Type 0

@@ -1,31 +1,28 @@
--- Rows 4 and 7 to 12 of document 01's table, for the operations that give them: conditions, and the law of each row.
+-- Rows 4 and 7 to 12 of document 01's table, for the operations that give them: conditions, and the laws of files and buffers. Those of lists are in proofs/OperationRows.antt.
 use Rattle.std.specs.Prelude.{◌≡◌, refl, ◌↔◌, ◌⊎◌, ℕ, ◌≤◌, ◌<◌, Bool, true, false, List, leb, length}
 use Rattle.std.proofs.Math.Path.{sym}
 use Rattle.std.proofs.Common.{ap, subst, ◌∙◌}
 use Rattle.std.proofs.Math.Logic.{inl, inr}
-use borrow.Author.Tests.{leb-true, leb-false, lt-leb}
+use borrow.Author.Tests.{leb-false, lt-leb}
 use Rattle.facts.specs.Read.{Read, accepted, refused, check, with_value, ◌>>=◌}
-use Rattle.facts.specs.ReadLaws.{through, checked, made, not_made, bind_assoc}
+use Rattle.facts.specs.ReadLaws.{made, not_made}
 use Rattle.facts.specs.Write.{length_in}
 use Rattle.facts.specs.Lists.{At}
 use Rattle.facts.specs.ListLaws.{look}
 use Rattle.facts.specs.Partial.{Partial, holds}
-use Rattle.facts.specs.Run.{blocked, attempt, at_most}
-use Rattle.facts.specs.RunLaws.{attempt_next, attempt_blocked, not_blocked, list_fits}
-use Rattle.taskfile.specs.Task.{Action, Task, cost, action_move, task_sum}
-use Rattle.taskfile.specs.TaskFile.{read_task, run_task}
-use Rattle.probefile.specs.Probe.{Step, Probe, step_move, probe_sum, ProbePlan}
-use Rattle.probefile.specs.ProbeLaws.{probe_plan}
-use Rattle.probefile.specs.ProbeFile.{read_probe, write_probe, run_probe}
+use Rattle.facts.specs.Run.{blocked, attempt}
+use Rattle.facts.specs.RunLaws.{attempt_next, attempt_blocked, not_blocked}
+use Rattle.taskfile.specs.Task.{Action, Task, cost, action_move}
+use Rattle.taskfile.specs.TaskFile.{read_task}
+use Rattle.probefile.specs.Probe.{Step, Probe, step_move, ProbePlan}
+use Rattle.probefile.specs.ProbeFile.{write_probe}
 use Rattle.compilation.specs.Compile.{probe_of}
 use Rattle.compilation.specs.CompileFile.{probe_file_of, compile_file}
-use Rattle.plans.specs.Carry.{expand, contract}
-use Rattle.carry.specs.CarryFile.{expanded, starts_at_most, contracted, list_of, answer_in}
+use Rattle.carry.specs.CarryFile.{list_of, answer_in}
 use Rattle.carry.specs.SameSumLaws.{answer_length}
-use Rattle.carry.specs.LongList.{refused_alike}
 use Rattle.cases.specs.SiteLaws.{first, after, stops, stopped, passed, failed, unmade}
-use Rattle.cases.specs.StartRows.{Over, starts_row}
-use Rattle.cases.specs.ListRows.{System, ListFault, list_sum, list_row}
+use Rattle.cases.specs.StartRows.{Over}
+use Rattle.cases.specs.ListRows.{System}
 
 -- ---- after the file
 
@@ -129,51 +126,6 @@ unfolding step_move
 step_blocked {st = st} h s = rw (look h, step_move) (attempt_row st.pre st.eff st.cost s)
 
 module _ (f list : List ℕ) (n p : ℕ) where
-  pub run_probe_lem : (run_probe f list ≡ refused n p) ↔ Given (read_probe f) (λ y. ListFault 6656 (probe_system y) list n p) n p
-  unfolding run_probe probe_sum
-  run_probe_lem = given (read_probe f) _ _ n p (λ y. list_row (probe_system y) 6656 list n p)
-
-  pub expand_list : (expanded f list ≡ refused n p) ↔ Given (read_task f) (λ t. ListFault 256 (task_system t) list n p) n p
-  unfolding expanded task_sum
-  expand_list = given (read_task f) _ _ n p (λ t.
-      let sum = list_sum (task_system t) 256 list in
-      let e = bind_assoc (at_most 256 list) (λ u. task_sum t list) (λ sum. accepted (expand t list, sum)) in
-      let r = list_row (task_system t) 256 list n p in
-      (λ h. r.0 (unmade sum _ (e ∙ h)), λ d. sym e ∙ stopped _ (r.1 d)))
-
-  -- a run is refused where expanding is
-  pub run_task_lem : (run_task f list ≡ refused n p) ↔ Given (read_task f) (λ t. ListFault 256 (task_system t) list n p) n p
-  run_task_lem = let alike = refused_alike f list n p in (λ h. expand_list.0 (alike.0 h), λ d. alike.1 (expand_list.1 d))
-
   -- more than 256 actions would come out of a list that is within its own limit, and a plan
   abbrev pub Overfull : Task → Type 0
   Overfull t = (n ≡ 8) × (length list ≤ 6656) × (sum : ℕ) × ProbePlan (probe_of t) list sum × Over t.actions 256 list p
-
-  -- what follows the run, and the whole
-  abbrev rest : Task → ℕ → Read (List ℕ × ℕ)
-  rest t sum = ◌>>=◌ (starts_at_most t.actions 256 0 list) (λ u. accepted (contract t list, sum))
-
-  abbrev whole : Task → Read (List ℕ × ℕ)
-  whole t = ◌>>=◌ (at_most 6656 list) (λ u. ◌>>=◌ (probe_sum (probe_of t) list) (rest t))
-
-  joined : (t : Task) → ◌>>=◌ (list_sum (probe_system (probe_of t)) 6656 list) (rest t) ≡ whole t
-  unfolding probe_sum
-  joined t = bind_assoc (at_most 6656 list) (λ u. probe_sum (probe_of t) list) (rest t)
-
-  contract_found : (t : Task) → whole t ≡ refused n p → ListFault 6656 (probe_system (probe_of t)) list n p ⊎ Overfull t
-  unfolding probe_sum at_most
-  contract_found t h = elim (stops (list_sum (probe_system (probe_of t)) 6656 list) (joined t ∙ h)) [
-    | first g ↦ inl ((list_row (probe_system (probe_of t)) 6656 list n p).0 g)
-    | after sum a g ↦
-        let o = through (check (leb (length list) 6656) 8 6656) a in
-        let q = (starts_row t.actions 256 list n p).0 (unmade (starts_at_most t.actions 256 0 list) _ g) in
-        inr (q.0, leb-true (length list) 6656 (checked (leb (length list) 6656) 8 6656 o.first), sum, (probe_plan (probe_of t) list sum).1 o.then, q.1)
-  ]
-
-  contract_answers : (t : Task) → ListFault 6656 (probe_system (probe_of t)) list n p ⊎ Overfull t → whole t ≡ refused n p
-  contract_answers t (inl d) = sym (joined t) ∙ stopped (rest t) ((list_row (probe_system (probe_of t)) 6656 list n p).1 d)
-  contract_answers t (inr o) = rw (list_fits 6656 list o.1, (probe_plan (probe_of t) list o.2).0 o.3, (starts_row t.actions 256 list n p).1 (o.0, o.4))
-
-  pub contract_list : (contracted f list ≡ refused n p) ↔ Given (read_task f) (λ t. ListFault 6656 (probe_system (probe_of t)) list n p ⊎ Overfull t) n p
-  unfolding contracted
-  contract_list = given (read_task f) _ _ n p (λ t. (contract_found t, contract_answers t))

@@ -20,11 +20,11 @@ use Rattle.facts.specs.Run.{Move, next, blocked, moved, run_from, at_most}
 use Rattle.facts.specs.RunLaws.{attempt_cost, not_blocked}
 use Rattle.estimate.specs.Number.{Number, WithinCap}
 use Rattle.estimate.specs.Additive.{estimate_file}
-use Rattle.estimate.specs.AdditiveLaws.{additive_within}
-use Rattle.taskfile.specs.Task.{Action, Task, Walk, max_variables, max_bytes, max_written, max_list, max_cost, walk, cost, action_move, task_sum}
-use Rattle.taskfile.specs.TaskFile.{read_task, check_task, action_of, ask_task, cost_task, run_task, sum_task}
-use Rattle.taskfile.specs.TaskReadLaws.{task_wf, task_limits}
-use Rattle.taskfile.specs.TaskLaws.{accepted_passed, accepted_cost, action_kept}
+use Rattle.taskfile.specs.Task.{Action, Task, Walk, max_variables, max_bytes, max_written, max_list, max_cost, walk}
+use Rattle.taskfile.specs.TaskFile.{read_task, check_task, action_of, ask_task, cost_task}
+use Rattle.estimate.proofs.AdditiveLaws.{additive_within}
+use Rattle.taskfile.proofs.TaskReadLaws.{task_wf, task_limits}
+use Rattle.taskfile.proofs.TaskLaws.{accepted_passed, accepted_cost}
 use Rattle.probefile.specs.Probe.{Step, Probe, step_move, probe_sum, WfStep, WfProbe}
 use Rattle.probefile.specs.Probe.{max_list as maxProbeList, perform as performStep}
 use Rattle.probefile.specs.ProbeFile.{read_probe, check_probe, write_probe, run_probe}
@@ -34,23 +34,24 @@ use Rattle.probe_estimate.specs.Estimate.{step_achiever, probe_estimate, estimat
 use Rattle.relaxation.specs.Relaxed.{RelaxedInside, relaxed_cost}
 use Rattle.relaxation.specs.RelaxedLaws.{set_below}
 use Rattle.relaxation.specs.SetLaws.{value_stands}
-use Rattle.relaxation.specs.NarrowingLaws.{InSets, relaxed_had}
+use Rattle.relaxation.specs.NarrowingLaws.{InSets}
+use Rattle.relaxation.proofs.NarrowingLaws.{relaxed_had}
 use Rattle.relaxation.specs.RelaxedTask.{good_set, check_relaxed, check_meets, relaxed_in, relaxed_task}
-use Rattle.relaxation.specs.RelaxedTaskLaws.{small_sizes, relaxed_inside}
+use Rattle.relaxation.specs.RelaxedTaskLaws.{small_sizes}
+use Rattle.relaxation.proofs.RelaxedTaskLaws.{relaxed_inside}
 use Rattle.relaxation.specs.Estimate.{least_cost, action_achiever, estimate}
 use Rattle.relaxation.specs.EstimateTask.{estimate_task}
 use Rattle.compilation.specs.Compile.{probe_of}
 use Rattle.compilation.specs.CompileFile.{probe_file_of, compile_file}
-use Rattle.compilation.specs.CompiledLaws.{task_accepted, compiled_wf}
-use Rattle.compilation.specs.CompiledLengthLaws.{compiled_length}
-use Rattle.plans.specs.Carry.{expand, contract}
-use Rattle.plans.specs.LengthLaws.{expand_fits}
-use Rattle.carry.specs.CarryFile.{expanded, starts_at_most, contracted, answer_in}
+use Rattle.compilation.specs.CompiledLaws.{task_accepted}
+use Rattle.compilation.proofs.CompiledLaws.{compiled_wf}
+use Rattle.compilation.proofs.CompiledLengthLaws.{compiled_length}
+use Rattle.plans.specs.Carry.{contract}
+use Rattle.carry.specs.CarryFile.{starts_at_most, contracted, answer_in}
 use Rattle.carry.specs.SameSumLaws.{fits_inv}
-use Rattle.carry.specs.LongList.{sum_of_run, long_list}
 use Rattle.carry.specs.StartLaws.{starts_kept}
 use Rattle.cases.specs.StartRows.{starts_row}
-use Rattle.cases.specs.PlaceLaws.{Within, value, place, Placed, then_within, made_within, of_made, placed_by, more_within, check_placed, task_places, probe_places}
+use Rattle.cases.specs.PlaceLaws.{Within, value, place, Placed, then_within, made_within, placed_by, more_within, check_placed, task_places, probe_places}
 
 -- ---- files
 
@@ -166,7 +167,7 @@ module _ (count : ℕ) (move : ℕ → List ℕ → Move) (goal : Partial) (P : 
       let k = kept a s x.0 x.1 p m in
       run_range most limit list x.0 (suc i) (sum + x.1) k.0 (omega arith) (omega (arith, mul-suc dear (length list), k.1))))
 
-  list_range : (most limit : ℕ) (list s : List ℕ) → P s → dear * most ≤ limit → Within (λ c. c ≤ limit) most (◌>>=◌ (at_most most list) (λ u. run_from count move goal 0 0 list s))
+  pub list_range : (most limit : ℕ) (list s : List ℕ) → P s → dear * most ≤ limit → Within (λ c. c ≤ limit) most (◌>>=◌ (at_most most list) (λ u. run_from count move goal 0 0 list s))
   unfolding at_most
   list_range most limit list s p u =
       then_within _ (check_placed (leb (length list) most) 8 most most (omega arith)) (λ z e g.
@@ -184,11 +185,6 @@ most_of_probe = 436200960
 abbrev pub most_passed : ℕ
 most_passed = 6144
 
-module _ (f : List ℕ) (bytes : Bytes f) {t : Task} (h : read_task f ≡ accepted t) where
-  task_sum_range : (list : List ℕ) → Within (λ c. c ≤ most_of_task) max_list (◌>>=◌ (at_most max_list list) (λ u. task_sum t list))
-  unfolding task_sum
-  task_sum_range list = list_range (length t.actions) (action_move t.actions) t.goal (Inside t.sizes) max_cost (action_kept f h bytes) max_list most_of_task list t.init (task_wf f h).init (omega arith)
-
 module _ {y : Probe} (wf : WfProbe y) where
   step_kept : (r : ℕ) (s e : List ℕ) (c : ℕ) → Unit {0} → step_move y.steps r s ≡ next e c → Unit {0} × (c ≤ 65535)
   unfolding step_move
@@ -201,14 +197,6 @@ module _ {y : Probe} (wf : WfProbe y) where
   probe_sum_range : (list : List ℕ) → Within (λ c. c ≤ most_of_probe) maxProbeList (◌>>=◌ (at_most maxProbeList list) (λ u. probe_sum y list))
   unfolding probe_sum
   probe_sum_range list = list_range (length y.steps) (step_move y.steps) y.goal (λ s. Unit {0}) 65535 step_kept maxProbeList most_of_probe list y.init tt (omega arith)
-
-sum_task_range : (f : List ℕ) → Bytes f → (list : List ℕ) → Within (λ sum. sum ≤ most_of_task) (suc max_bytes) (sum_task f list)
-unfolding sum_task
-sum_task_range f bytes list = then_within _ (task_places f) (λ t h g. more_within (task_sum_range f bytes h list) (omega arith))
-
-pub run_task_range : (f : List ℕ) → Bytes f → (list : List ℕ) → Within (Walked most_passed most_of_task) (suc max_bytes) (run_task f list)
-run_task_range f bytes list =
-    of_made (λ (w : Walk). w.cost) (run_task f list) (rw (sum_of_run f list) (sum_task_range f bytes list)) (λ w h dear. let l = long_list f list w h in (omega (arith, l.few, l.exactly, l.most), dear))
 
 pub run_probe_range : (f : List ℕ) → Bytes f → (list : List ℕ) → Within (λ sum. sum ≤ most_of_probe) (suc maxProbeBytes) (run_probe f list)
 unfolding run_probe
@@ -229,16 +217,6 @@ compile_range f room = length_range room (omega arith) (made_within (λ (t : Tas
 abbrev pub Carried : ℕ → ℕ → List ℕ × ℕ → Type 0
 Carried long dear c = (length c.0 ≤ long) × (c.1 ≤ dear)
 
-expanded_range : (f : List ℕ) → Bytes f → (list : List ℕ) → Within (Carried maxProbeList most_of_task) maxProbeList (expanded f list)
-unfolding expanded
-expanded_range f bytes list =
-    then_within _ (more_within (task_places f) (omega arith)) (λ t h g.
-    rw (← bind_assoc {Z = List ℕ × ℕ} (at_most max_list list) (λ u. task_sum t list) (λ sum. accepted (expand t list, sum)))
-    (then_within _ (more_within (task_sum_range f bytes h list) (omega arith)) (λ sum e l. value (expand_fits t (task_wf f h) (task_limits f h) list (few t list e), l))))
-  where
-    few : (t : Task) (list : List ℕ) {sum : ℕ} → ◌>>=◌ (at_most max_list list) (λ u. task_sum t list) ≡ accepted sum → length list ≤ max_list
-    few t list e = fits_inv max_list list (through (at_most max_list list) e).first
-
 contracted_range : (f : List ℕ) → Bytes f → (list : List ℕ) → Within (Carried max_list most_of_probe) maxProbeList (contracted f list)
 unfolding contracted contract at_most
 contracted_range f bytes list =
@@ -258,9 +236,6 @@ Written long dear c = (c.0 ≤ long) × (c.1 ≤ dear)
 pub answer_range : {long dear most : ℕ} (room : ℕ) {carried : Read (List ℕ × ℕ)} → long ≤ most → Within (Carried long dear) most carried → Within (Written long dear) most (answer_in room carried)
 unfolding answer_in
 answer_range room l w = then_within _ w (λ c h g. made_within (λ (n : ℕ). (n, c.1)) (length_range room l (value g.0)) (λ n e k. (k, g.1)))
-
-pub expand_range : (f : List ℕ) → Bytes f → (list : List ℕ) (room : ℕ) → Within (Written maxProbeList most_of_task) maxProbeList (answer_in room (expanded f list))
-expand_range f bytes list room = answer_range room (omega arith) (expanded_range f bytes list)
 
 pub contract_range : (f : List ℕ) → Bytes f → (list : List ℕ) (room : ℕ) → Within (Written max_list most_of_probe) maxProbeList (answer_in room (contracted f list))
 contract_range f bytes list room = answer_range room (omega arith) (contracted_range f bytes list)

@@ -1,5 +1,5 @@
 -- Rows 4, 11 and 12 of document 01's table, for an action number and a state or a relaxed state: conditions, and the law of each row. Row 17 is in LackingRows.
-use Rattle.std.specs.Prelude.{◌≡◌, refl, ◌↔◌, ◌⊎◌, ℕ, zero, suc, ◌+◌, ◌^◌, ◌≤◌, ◌<◌, Bool, true, false, ◌&&◌, List, [], ◌∷◌, ltb, eqb, length}
+use Rattle.std.specs.Prelude.{◌≡◌, refl, ◌↔◌, ◌⊎◌, ℕ, zero, suc, ◌+◌, ◌^◌, ◌≤◌, ◌<◌, Bool, true, false, List, [], ◌∷◌, ltb, eqb, length}
 use Rattle.std.proofs.Common.{sym, ap, ◌∙◌, inl, inr, arith, true≢false, ltb-false, eqb-true, le-ltb}
 use Rattle.std.proofs.lemmas.Bool.{eqb-false}
 use Rattle.facts.specs.Read.{Read, accepted, refused, check, ◌>>=◌}
@@ -11,8 +11,6 @@ use Rattle.estimate.specs.Number.{Number}
 use Rattle.estimate.specs.Additive.{estimate_file}
 use Rattle.taskfile.specs.Task.{Action, Task, walk}
 use Rattle.taskfile.specs.TaskFile.{action_of, read_task, ask_task, cost_task}
-use Rattle.relaxation.specs.RelaxedTask.{good_set, check_relaxed}
-use Rattle.relaxation.specs.RelaxedTaskLaws.{set_empty, set_stray}
 use Rattle.cases.specs.SiteLaws.{first, after, stops, stopped, not_accepted, failed, unmade}
 use Rattle.cases.specs.OperationRows.{Given, given}
 
@@ -116,25 +114,13 @@ module _ {Bad : ℕ → ℕ → Type 0} (good : ℕ → ℕ → Bool) (same : (d
   with_refused sizes s (wrong_length e d q) = rw (e, q) (with_width good sizes s d)
   with_refused sizes s {p = p} (bad_variable e d o) = rw e (with_values good sizes s d ∙ values_refused 4 0 p o.domain o.has o.bad o.before (omega arith))
 
-  with_row : Refuses (check_with good) Bad
+  pub with_row : Refuses (check_with good) Bad
   with_row sizes s n p = (with_found sizes s, with_refused sizes s)
 
 -- a state
 state_check : Refuses check_state Beyond
 unfolding check_state
 state_check = with_row (λ d x. ltb x d) (λ d x. (ltb-false x d, le-ltb x d))
-
-no_set : (size set : ℕ) → good_set size set ≡ false → NoSet size set
-no_set size set h = go (ltb 0 set) refl h
-  where
-    go : (b : Bool) → ltb 0 set ≡ b → (b && ltb set (2 ^ size)) ≡ false → NoSet size set
-    go true e h = inr (ltb-false set (2 ^ size) h)
-    go false e h = let none = ltb-false 0 set e in inl (omega arith)
-
--- a relaxed state
-pub relaxed_check : Refuses check_relaxed NoSet
-unfolding check_relaxed
-relaxed_check = with_row good_set (λ size set. (no_set size set, λ b. elim b [ inl e ↦ set_empty size set e | inr l ↦ set_stray size set l ]))
 
 -- ---- a file as it was read, and then a state
 

@@ -1,7 +1,6 @@
 -- What the goal and each step of a compiled task ask of a probe state, and what a step does to it. The state is s, then the semaphore's value σ, then the markers' ms.
 use Rattle.std.specs.Prelude.{◌≡◌, refl, ◌↔◌, ℕ, suc, ◌+◌, ◌<◌, Bool, true, ◌&&◌, List, [], ◌∷◌, ◌++◌, eqb, length, get_or, set}
 use Rattle.std.proofs.Common.{sym, ap, subst, ◌∙◌, suc-add, zero-add, arith, length-append, get_or-append-add, eq-eqb, eqb-true}
-use Rattle.std.proofs.Math.Logic.{Iff·rfl}
 use Rattle.std.proofs.Math.Bool.{and-eq-true_iff}
 use Rattle.std.proofs.Math.ListN.{get_or-append}
 use Rattle.std.proofs.Math.Seq.{get_or-append_seam}
@@ -85,7 +84,7 @@ module _ {t : Task} {s : List ℕ} {a : ℕ} {x : Action} (o : Scene t s a x) wh
         let h = wf_below action_wf.pre in
         asked
         (mark_holds (extend x.pre (variables t) 0) 0 (below_extend 0 (variables t) x.pre h) ∙ ap (λ (b : Bool). b && eqb 0 (get_or ms a 0)) (sem_holds x.pre 0 h))
-        (simp (and-eq-true_iff, eqb_iff) Iff·rfl)
+        (simp (and-eq-true_iff, eqb_iff) (λ p. p, λ p. p))
 
     -- it sets semaphore and marker, and nothing of the task
     pub start_apply : apply (start_step (variables t) a x).eff (s ++ (σ ∷ ms)) ≡ s ++ (1 ∷ set ms a 1)
@@ -100,7 +99,7 @@ module _ {t : Task} {s : List ℕ} {a : ℕ} {x : Action} (o : Scene t s a x) wh
         asked {b = eqb d (get_or s v 0) && eqb i (get_or ms a 0)}
         (mark_holds (extend empty v d) i below
         ∙ rw (holds_extend d v empty (s ++ (σ ∷ ms)) (below_empty v) (omega (arith, marker_below)), holds_empty (s ++ (σ ∷ ms)), get_or-append s (σ ∷ ms) 0 v (omega (arith, len))))
-        (simp (and-eq-true_iff, eqb_iff) Iff·rfl)
+        (simp (and-eq-true_iff, eqb_iff) (λ p. p, λ p. p))
 
     -- it moves the marker
     pub edge_apply : (i v d : ℕ) (e : Edge) → apply (edge_step (variables t) a i v d e).eff (s ++ (σ ∷ ms)) ≡ s ++ (σ ∷ set ms a e.target)

@@ -17,8 +17,9 @@ use Rattle.taskfile.specs.Task.{Action, Task}
 use Rattle.taskfile.specs.Index.{Ready}
 use Rattle.taskfile.specs.WalkInPlace.{node_count}
 use Rattle.taskfile.specs.WalkInPlaceLaws.{count_is}
-use Rattle.taskfile.specs.TaskReadLaws.{task_wf}
-use Rattle.taskfile.specs.AnswerLaws.{there as task-there, starts}
+use Rattle.taskfile.proofs.TaskReadLaws.{task_wf}
+use Rattle.taskfile.specs.AnswerLaws.{there as task-there}
+use Rattle.taskfile.proofs.AnswerLaws.{starts}
 use Rattle.probefile.specs.Probe.{Step}
 use Rattle.probefile.specs.ProbeFile.{write_step, write_probe}
 use Rattle.compilation.specs.Compile.{flat, variables, action_steps, steps_of, marker_size, probe_of}

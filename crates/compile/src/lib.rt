@@ -1,4 +1,6 @@
 // The probe file of a task: written into the caller's buffer.
+#![tactic(auto)]
+
 ghost use Rattle.std.specs.Prelude.{◌≡◌, length};
 ghost use Rattle.taskfile.specs.Blank.{file_of};
 ghost use Rattle.taskfile.specs.Index.{Ready};
@@ -41,7 +43,8 @@ pub fn compile_in(
     let sizes = &file[1..last];
     let extent = extent_of(file, sizes, actions, row);
     let needed = probe_writer::head_bytes::head_length(file, variables, actions) + extent.bytes;
-    if out.len() < needed {
+    let short = out.len() < needed;
+    if short {
         return Compiled::Refused(Refusal::Short(needed));
     }
     let at = probe_writer::head_bytes::put_head(file, variables, actions, row, extent.steps, out);

@@ -1,9 +1,10 @@
 // The commands by their words, the arguments that each takes, and where its refusals go.
-use crate::input::is_word;
+use crate::input::{PATH_MAX, argument, is_word};
+use crate::output::Stream;
 use arguments::table::number_in;
 use arguments::{Name, Shape};
 
-#[derive(Drop)]
+#[derive(Clone, Copy)]
 pub enum Command {
     Check,
     Compile,
@@ -24,9 +25,9 @@ pub enum Command {
 }
 
 // The command that the first argument is; `show --dot` draws.
-pub fn first_word(dot: bool) -> Command {
-    let mut word = io::buffer();
-    let n = os::arg(1, &mut word);
+pub fn first_word(rt: HostRuntime, dot: bool) -> Command {
+    let mut word = [0; PATH_MAX];
+    let n = argument(rt, 1, &mut word);
     let commands: &[u8] =
         b"check compile cost relaxed run follow expand contract estimate show steps charge sheet dearest ";
     match number_in(commands, &word[..n]) {
@@ -119,21 +120,21 @@ pub fn takes_either(command: Command) -> bool {
 }
 
 // Where a refusal goes, with the arguments behind number `behind`: to standard error if standard output is there for data. With no names `compile` does as document 01's program.
-pub fn refusal_stream(command: Command, behind: u8) -> i32 {
+pub fn refusal_stream(rt: HostRuntime, command: Command, behind: u8) -> Stream {
     match command {
-        Command::Expand => libc::STDERR_FILENO,
-        Command::Contract => libc::STDERR_FILENO,
-        Command::Draw => libc::STDERR_FILENO,
-        Command::Sheet => libc::STDERR_FILENO,
-        Command::Compile => compiled_stream(behind),
-        _ => libc::STDOUT_FILENO,
+        Command::Expand => Stream::Errors,
+        Command::Contract => Stream::Errors,
+        Command::Draw => Stream::Errors,
+        Command::Sheet => Stream::Errors,
+        Command::Compile => compiled_stream(rt, behind),
+        _ => Stream::Output,
     }
 }
 
 // The same for `compile`, by the name that it writes to.
-fn compiled_stream(behind: u8) -> i32 {
-    if is_word(behind as usize + 2, b"-") {
-        return libc::STDERR_FILENO;
+fn compiled_stream(rt: HostRuntime, behind: u8) -> Stream {
+    if is_word(rt, behind as usize + 2, b"-") {
+        return Stream::Errors;
     }
-    libc::STDOUT_FILENO
+    Stream::Output
 }

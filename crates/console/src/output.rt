@@ -1,31 +1,49 @@
-// What the tool writes: answers to standard output, sums of lists and what is wrong to standard error, and a digit for the exit status to descriptor 3. A write that fails is told, and the status is 2.
-ghost use Rattle.io.specs.Counts.{IsPrefixLen};
+// What the tool writes: answers to standard output, sums of lists and what is wrong to standard error, and a digit for the exit status to descriptor 3, or a letter where nobody reads what it writes. Any other write that fails is told, and the status is 2.
+ghost use Rattle.text.specs.Append.{Counts};
 
 use crate::asking::Asked;
-use crate::input::name_of;
+use crate::input::{PATH_MAX, argument, name_of};
 use arguments::Wrong;
 use estimate::Est;
 use facts::Refusal;
 use report::{Fault, Subject};
-use text::append::{append_list, within};
+use std::fmt::InlineText;
+use std::fs::OpenOptions;
+use std::io::{ErrorKind, Write};
+use std::os::unix::fs::MetadataExt;
+use std::{fs, io};
+use text::append::{append, append_byte, append_list, within};
 
-// Where the exit status goes, for the script that starts the tool.
-const STATUS: i32 = 3;
+// Where a text goes: to standard output, or to standard error.
+#[derive(Clone, Copy)]
+pub enum Stream {
+    Output,
+    Errors,
+}
+
+// Where the exit status goes, for the script that starts the tool: what it has open as descriptor 3.
+const STATUS: &str = "/proc/self/fd/3";
+
+// The bit of that link's mode that says whether the descriptor is open for writing.
+const WRITES: u32 = 0o200;
 
 // The most bytes of a line.
 const LINE: usize = 512;
 
 // The same with a name, and with two words of the command line.
-const NAMED_LINE: usize = libc::PATH_MAX + LINE;
+const NAMED_LINE: usize = PATH_MAX + LINE;
 
-const WORDS_LINE: usize = libc::PATH_MAX + NAMED_LINE;
+const WORDS_LINE: usize = PATH_MAX + NAMED_LINE;
 
 // The most bytes of a list as text: five digits and a blank for each entry.
 const LIST_TEXT: usize = 65536;
 
+// More bytes than the system's words for an error have.
+const REASON: usize = 300;
+
 // The number n, or the length of a list if that is less.
 pub fn within16(n: usize, list: &[u16]) -> usize
-    ensures { IsPrefixLen result list.now }
+    ensures { Counts result list.now }
 {
     if list.len() < n {
         return list.len();
@@ -33,129 +51,183 @@ pub fn within16(n: usize, list: &[u16]) -> usize
     n
 }
 
-// Writes the first n bytes of a text, and answers whether all of them were taken.
-fn write(fd: i32, text: &[u8], n: usize) -> bool {
+// Writes the first n bytes of a text. Where nobody reads them, the status says so, and what it says first counts.
+fn write(rt: HostRuntime, to: Stream, text: &[u8], n: usize) -> io::Result<()> {
     let most = within(n, text);
-    io::write_all(fd, &text[..most])
+    let written = match to {
+        Stream::Output => Print::write_all(&rt.stdout(), &text[..most]),
+        Stream::Errors => Print::write_all(&rt.stderr(), &text[..most]),
+    };
+    if let Err(why) = written {
+        if is_unread(why) {
+            status(rt, b"p");
+        }
+    }
+    written
+}
+
+// Whether a write failed as nobody reads any more.
+fn is_unread(why: io::Error) -> bool {
+    why.kind() == ErrorKind::BrokenPipe
+}
+
+// The same to standard error, where nothing else can be said if that fails.
+fn complain_of(rt: HostRuntime, text: &[u8], n: usize) {
+    let _ = write(rt, Stream::Errors, text, n);
+}
+
+// The digit of the exit status, if the descriptor is open for writing: else nobody asks for one.
+fn status(rt: HostRuntime, digit: &[u8]) {
+    if let Ok(link) = fs::symlink_metadata(&rt, STATUS) {
+        if link.mode() & WRITES != 0 {
+            if let Ok(mut to) = OpenOptions::new().append(true).open(&rt, STATUS) {
+                let _ = to.write_all(digit);
+            }
+        }
+    }
+}
+
+// The system's words for an error, without its number, after the name of what it is about; nothing where nobody reads any more.
+pub fn fail(rt: HostRuntime, name: &[u8], why: io::Error) {
+    if is_unread(why) {
+        return;
+    }
+    let said = InlineText::<REASON>::of(why);
+    let reason = said.as_str();
+    let words = match reason.split_once(" (os error ") {
+        Some((words, _)) => words,
+        None => reason,
+    };
+    let mut line = [0; NAMED_LINE];
+    let first = append(&mut line, 0, name);
+    let second = append(&mut line, first, b": ");
+    let third = append(&mut line, second, words.as_bytes());
+    let end = append_byte(&mut line, third, b'\n');
+    complain_of(rt, &line, end);
 }
 
 // The first n bytes of a text are the answer.
-pub fn reply(text: &[u8], n: usize) {
-    let written = write(libc::STDOUT_FILENO, text, n);
-    end(written, b"0");
+pub fn reply(rt: HostRuntime, text: &[u8], n: usize) {
+    let written = write(rt, Stream::Output, text, n);
+    end(rt, written, b"0");
 }
 
 // The status, if all was written; if not, that is said.
-fn end(written: bool, status: &[u8]) {
-    if !written {
-        os::fail(b"standard output");
-        return failed();
+fn end(rt: HostRuntime, written: io::Result<()>, digit: &[u8]) {
+    match written {
+        Ok(()) => status(rt, digit),
+        Err(why) => {
+            fail(rt, b"standard output", why);
+            failed(rt);
+        }
     }
-    io::write_all(STATUS, status);
 }
 
 // All went well.
-pub fn done() {
-    io::write_all(STATUS, b"0");
+pub fn done(rt: HostRuntime) {
+    status(rt, b"0");
 }
 
 // Something was not had, and why is said already.
-pub fn failed() {
-    io::write_all(STATUS, b"2");
+pub fn failed(rt: HostRuntime) {
+    status(rt, b"2");
 }
 
 // What is wrong with the text or argument of a name.
-pub fn fault(name: &[u8], why: Fault) {
+pub fn fault(rt: HostRuntime, name: &[u8], why: Fault) {
     let mut line = [0; NAMED_LINE];
     let n = report::put_fault(&mut line, 0, name, why);
-    write(libc::STDERR_FILENO, &line, n);
+    complain_of(rt, &line, n);
 }
 
 // What is wrong with the command line, with argument i, if that is it.
-pub fn complain(i: usize, why: Wrong) {
-    let mut command = io::buffer();
-    let n = os::arg(1, &mut command);
-    let mut word = io::buffer();
-    let m = os::arg(i, &mut word);
+pub fn complain(rt: HostRuntime, i: usize, why: Wrong) {
+    let mut command = [0; PATH_MAX];
+    let n = argument(rt, 1, &mut command);
+    let mut word = [0; PATH_MAX];
+    let m = argument(rt, i, &mut word);
     let mut line = [0; WORDS_LINE];
     let end = arguments::put_wrong(&mut line, 0, &command[..n], &word[..m], why);
-    write(libc::STDERR_FILENO, &line, end);
+    complain_of(rt, &line, end);
 }
 
 // The file was refused as one kind, and is accepted as the other: a probe file, or a task file.
-pub fn hint(i: usize, either: bool, probe: bool) {
-    let mut name = io::buffer();
-    let n = name_of(i, &mut name);
+pub fn hint(rt: HostRuntime, i: usize, either: bool, probe: bool) {
+    let mut name = [0; PATH_MAX];
+    let n = name_of(rt, i, &mut name);
     let mut line = [0; NAMED_LINE];
     let end = arguments::put_hint(&mut line, 0, &name[..n], either, probe);
-    write(libc::STDERR_FILENO, &line, end);
+    complain_of(rt, &line, end);
 }
 
 // A refusal, and if it is asked for a sentence that explains it.
-pub fn refuse(asked: Asked, subject: Subject, why: Refusal) {
+pub fn refuse(rt: HostRuntime, asked: Asked, subject: Subject, why: Refusal) {
     let to = asked.stream;
     let mut line = [0; LINE];
     let n = report::put_refusal(&mut line, 0, why);
-    let mut written = write(to, &line, n);
+    let mut written = write(rt, to, &line, n);
     if asked.explain {
         let mut sentence = [0; LINE];
         let m = explain::put_explanation(&mut sentence, 0, subject, why);
-        written = write(to, &sentence, m) && written;
+        written = write(rt, to, &sentence, m).and(written);
     }
-    end(written, b"1");
+    end(rt, written, b"1");
 }
 
 // More about a refusal, where that went.
-pub fn add(asked: Asked, text: &[u8], n: usize) {
-    if !write(asked.stream, text, n) {
-        os::fail(b"standard output");
+pub fn add(rt: HostRuntime, asked: Asked, text: &[u8], n: usize) {
+    if let Err(why) = write(rt, asked.stream, text, n) {
+        fail(rt, b"standard output", why);
     }
 }
 
 // A number after its name.
-pub fn count(name: &[u8], n: u32) {
+pub fn count(rt: HostRuntime, name: &[u8], n: u32) {
     let mut line = [0; LINE];
     let end = report::put_count(&mut line, 0, name, n);
-    reply(&line, end);
+    reply(rt, &line, end);
 }
 
 // What an action costs, and how many nodes it passes.
-pub fn costed(cost: u32, passed: usize) {
+pub fn costed(rt: HostRuntime, cost: u32, passed: usize) {
     let mut lines = [0; LINE];
     let first = report::put_count(&mut lines, 0, b"cost", cost);
     let end = report::put_around(&mut lines, first, b"nodes ", passed, b"\n");
-    reply(&lines, end);
+    reply(rt, &lines, end);
 }
 
 // What an action costs at most, and the state that is given for it.
-pub fn dearest(cost: u32, state: &[u8]) {
+pub fn dearest(rt: HostRuntime, cost: u32, state: &[u8]) {
     let mut lines = [0; LINE];
     let n = report::put_dearest(&mut lines, 0, cost, state);
-    reply(&lines, n);
+    reply(rt, &lines, n);
 }
 
 // The sum of a plan, how many nodes its actions pass, and how many steps its probe list has.
-pub fn ran(sum: u32, passed: usize, steps: usize) {
+pub fn ran(rt: HostRuntime, sum: u32, passed: usize, steps: usize) {
     let mut lines = [0; LINE];
     let first = report::put_count(&mut lines, 0, b"sum", sum);
     let second = report::put_around(&mut lines, first, b"nodes ", passed, b"\n");
     let end = report::put_around(&mut lines, second, b"steps ", steps, b"\n");
-    reply(&lines, end);
+    reply(rt, &lines, end);
 }
 
 // An estimate.
-pub fn estimated(e: Est) {
+pub fn estimated(rt: HostRuntime, e: Est) {
     let mut line = [0; LINE];
     let n = report::put_estimate(&mut line, 0, e);
-    reply(&line, n);
+    reply(rt, &line, n);
 }
 
 // A list and its sum.
-pub fn listed(list: &[u16], sum: u32) {
+pub fn listed(rt: HostRuntime, list: &[u16], sum: u32) {
     let mut text = [0; LIST_TEXT];
     let n = append_list(&mut text, 0, list);
     let mut line = [0; LINE];
     let m = report::put_count(&mut line, 0, b"sum", sum);
-    let written = write(libc::STDOUT_FILENO, &text, n) && write(libc::STDERR_FILENO, &line, m);
-    end(written, b"0");
+    let mut written = write(rt, Stream::Output, &text, n);
+    if written.is_ok() {
+        written = write(rt, Stream::Errors, &line, m);
+    }
+    end(rt, written, b"0");
 }

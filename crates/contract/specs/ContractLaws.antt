@@ -8,13 +8,13 @@ use Rattle.facts.specs.ReadLaws.{through, Made, made, not_made, bind_assoc}
 use Rattle.facts.specs.Run.{at_most}
 use Rattle.taskfile.specs.Task.{Action, Task, max_list, max_written, max_actions}
 use Rattle.taskfile.specs.TaskFile.{read_task, check_task}
-use Rattle.taskfile.specs.TaskReadLaws.{task_limits}
+use Rattle.taskfile.proofs.TaskReadLaws.{task_limits}
 use Rattle.probefile.specs.Probe.{probe_sum}
 use Rattle.probefile.specs.Probe.{max_list as maxProbeList}
 use Rattle.probefile.specs.ProbeFile.{run_probe}
 use Rattle.compilation.specs.Compile.{probe_of}
 use Rattle.compilation.specs.CompileFile.{compile_file}
-use Rattle.compilation.specs.ProgramLaws.{not_compiled}
+use Rattle.compilation.proofs.ProgramLaws.{not_compiled}
 use Rattle.plans.specs.Carry.{started_by, contract_of, contract}
 use Rattle.plans.specs.Contract.{contract_start, contract_other}
 use Rattle.facts.specs.WriteRowLaws.{Cut}

@@ -1,4 +1,6 @@
 // Contracting: the list of actions that a probe list comes from.
+#![tactic(auto)]
+
 mod starts;
 
 ghost use Rattle.std.specs.Prelude.{◌≡◌, length};

@@ -9,7 +9,7 @@ use Rattle.std.proofs.lemmas.Bool.{eqb-false}
 use Rattle.facts.specs.Lists.{up_from, find, All, At, here, there}
 use Rattle.facts.specs.ListLaws.{at_get_d, length_up_from, at_up_from, all_at}
 use Rattle.facts.specs.State.{Inside}
-use Rattle.taskfile.specs.Task.{Edge, Node, Action, edge_at, Walk, walk_from, cost, level, WfEdge, WfAction}
+use Rattle.taskfile.specs.Task.{Edge, Node, Action, edge_at, Walk, walk_from, level, WfEdge, WfAction}
 use Rattle.taskfile.specs.WalkLaws.{walk_at, walk_past_lem, level_node, level_terminal}
 use Rattle.relaxation.specs.Pass.{edge_for, by_edge}
 use Rattle.relaxation.specs.PassLaws.{edge_inside, edges_above, pass_node, pass_terminal}

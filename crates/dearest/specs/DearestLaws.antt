@@ -1,7 +1,7 @@
 -- The state and the cost that are given are those that are asked for, and no others are; one pass and one walk find them.
 use Rattle.std.specs.Prelude.{◌≡◌, ◌⊎◌, ℕ, ◌≤◌, ◌<◌}
 use Rattle.std.proofs.Math.Path.{refl, sym, ap}
-use Rattle.std.proofs.Common.{ap₂, ◌∙◌, inl, inr, eq-or-lt_of_le, eq-eqb, eqb-true}
+use Rattle.std.proofs.Common.{ap₂, ◌∙◌, inl, inr, eq-eqb, eqb-true}
 use Rattle.std.proofs.Math.Decide.{dec_lt}
 use native.Mathlib.Omega.{arith}
 use Rattle.std.proofs.Math.Option.{Option, none, some}
@@ -12,7 +12,7 @@ use Rattle.facts.specs.State.{Inside}
 use Rattle.taskfile.specs.Task.{Action, max_values, walk, cost, WfAction}
 use Rattle.dearest.specs.Dearest.{all_states, greatest_cost, dearest_state, Smaller, Dearest}
 use Rattle.dearest.specs.ByWalk.{greatest_by_pass, dearest_by_walk}
-use Rattle.dearest.specs.StatesLaws.{all_inside, inside_all, smaller_once, find_smallest}
+use Rattle.dearest.specs.StatesLaws.{all_inside, inside_all, find_smallest}
 use Rattle.dearest.specs.ByWalkLaws.{greatest_most, greatest_least, First, walk_first}
 
 -- domains have values
@@ -22,21 +22,21 @@ some_values (d ∷ sizes) h = (omega (arith, h.0.0), some_values sizes h.1)
 
 module _ {sizes : List ℕ} {x : Action} (wf : WfAction sizes x) (some_value : All (λ d. 0 < d) sizes) where
   -- what the walk from node 1 gives
-  walked : First wf some_value 1 sizes [] (dearest_by_walk sizes x)
+  pub walked : First wf some_value 1 sizes [] (dearest_by_walk sizes x)
   unfolding dearest_by_walk
   walked = walk_first wf some_value 1 0 sizes [] refl refl (record { positive = omega arith; within = omega arith }) (omega arith)
 
   -- it has the greatest cost
-  walk_costs : cost x (dearest_by_walk sizes x) ≡ greatest_by_pass sizes x
+  pub walk_costs : cost x (dearest_by_walk sizes x) ≡ greatest_by_pass sizes x
   unfolding walk greatest_by_pass
   walk_costs = omega (arith, walked.costs_it)
 
-  none_costs_more : (s : List ℕ) → Inside sizes s → cost x s ≤ greatest_by_pass sizes x
+  pub none_costs_more : (s : List ℕ) → Inside sizes s → cost x s ≤ greatest_by_pass sizes x
   unfolding walk greatest_by_pass
   none_costs_more s i = omega (arith, walked.most s i)
 
   -- and is the first that has it
-  walk_smallest : (s : List ℕ) → Inside sizes s → cost x s ≡ greatest_by_pass sizes x → (dearest_by_walk sizes x ≡ s) ⊎ Smaller (dearest_by_walk sizes x) s
+  pub walk_smallest : (s : List ℕ) → Inside sizes s → cost x s ≡ greatest_by_pass sizes x → (dearest_by_walk sizes x ≡ s) ⊎ Smaller (dearest_by_walk sizes x) s
   unfolding walk greatest_by_pass
   walk_smallest s i c = walked.first s i (omega arith)
 
@@ -58,18 +58,6 @@ module _ {sizes : List ℕ} {x : Action} (wf : WfAction sizes x) (some_value : A
       let g = greatest_by_pass_lem in
       let found = find_smallest (λ s. eqb (cost x s) (greatest_cost sizes x)) (eq-eqb _ _ (walk_costs ∙ sym g)) sizes walked.inside (λ s i t. walk_smallest s i (eqb-true _ _ t ∙ g)) in
       ap (λ (o : Option (List ℕ)). elim o as (λ o. List ℕ) [ none ↦ [] | some s ↦ s ]) found
-
-  -- ---- "No state of the task may cost more", the state given costs that, and every smaller one costs less
-
-  pub dearest_is : Dearest sizes x (dearest_state sizes x) (greatest_cost sizes x)
-  dearest_is = rw (dearest_by_walk_lem, greatest_by_pass_lem) (record { inside = walked.inside; costs = walk_costs; none_more = none_costs_more; smallest = smallest })
-    where
-      smallest : (s : List ℕ) → Inside sizes s → Smaller s (dearest_by_walk sizes x) → cost x s < greatest_by_pass sizes x
-      smallest s i l =
-          elim (eq-or-lt_of_le (none_costs_more s i)) [
-            | inr less ↦ less
-            | inl same ↦ absurd (elim (walk_smallest s i same) [ inl e ↦ smaller_once s s (rw e at l) (rw e at l) | inr k ↦ smaller_once s (dearest_by_walk sizes x) l k ])
-          ]
 
 -- ---- nothing else is so
 

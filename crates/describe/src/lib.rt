@@ -1,4 +1,6 @@
 // A task in words.
+#![tactic(auto)]
+
 mod task;
 
 ghost use Rattle.std.specs.Prelude.{◌≡◌, length};

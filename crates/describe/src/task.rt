@@ -14,7 +14,8 @@ use words::parts::{put_numbered, put_states};
 fn put_target(out: &mut [u8], at: usize, m: usize, target: usize) -> usize
     ensures { Adds (target_text m target) out.old out.new at result }
 {
-    if target <= m {
+    let node = target <= m;
+    if node {
         return put_numbered(out, at, b"node ", target as u64);
     }
     append(out, at, b"the end")

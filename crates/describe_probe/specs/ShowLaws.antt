@@ -28,7 +28,7 @@ use Rattle.words.specs.Show.{variable_text}
 use Rattle.words.specs.Rows.{row_from}
 use Rattle.words.specs.RowLaws.{list_row}
 use Rattle.words.specs.DescribeLaws.{variables_row}
-use Rattle.words.specs.LengthLaws.{five, flat_each, partial_most_lem, variable_most}
+use Rattle.words.proofs.LengthLaws.{five, flat_each, partial_most_lem, variable_most}
 use Rattle.describe_probe.specs.Show.{step_text, probe_text, shown, showing}
 
 -- ---- the text in place

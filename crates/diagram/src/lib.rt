@@ -1,4 +1,6 @@
 // Diagrams in place: past one, with every check, noting where each node starts and which variable it tests.
+#![tactic(auto)]
+
 ghost use Rattle.std.specs.Prelude.{◌≡◌, ℕ, suc, ◌+◌, ◌*◌, ◌-◌, ◌≤◌, ◌<◌, ◌&&◌, leb, ltb, length, get_or};
 ghost use Rattle.facts.specs.Read.{accepted};
 ghost use Rattle.facts.specs.Answers.{past_answer, checked_answer};

@@ -1,4 +1,6 @@
 // The cost diagrams of a task, for Graphviz.
+#![tactic(auto)]
+
 mod dot;
 
 ghost use Rattle.std.specs.Prelude.{◌≡◌, ◌+◌, ◌≤◌, length};
@@ -63,7 +65,8 @@ fn draw_in(
 {
     let mut none = [0; 0];
     let needed = dot::put_drawing(&mut none, file, variables, row, from, end);
-    if out.len() < needed {
+    let short = out.len() < needed;
+    if short {
         return Described::Refused(Refusal::Short(needed));
     }
     let written = dot::put_drawing(out, file, variables, row, from, end);

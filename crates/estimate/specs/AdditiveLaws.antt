@@ -13,9 +13,9 @@ use Rattle.estimate.specs.Number.{Number, exact, never, lesser, WithinCap}
 use Rattle.estimate.specs.NumberLaws.{sum_within, lesser_within}
 use Rattle.estimate.specs.Facts.{start_number}
 use Rattle.estimate.specs.Rounds.{lowered, round_of, settled, Lowering}
-use Rattle.estimate.specs.RoundsLaws.{lowered_at, lowered_length, lowered_zero, round_lowering, settled_on, settled_still, settled_agrees}
+use Rattle.estimate.specs.RoundsLaws.{lowered_at, lowered_length, lowered_zero, round_lowering, settled_still, settled_agrees}
 use Rattle.estimate.specs.Additive.{fact_count, listed, fact_number, has, sum_from, Offer, offered_by, offered, Achiever, offer_of, offers_by, offers_of, additive_round, start_numbers, last_numbers, additive, estimate_file}
-use Rattle.estimate.specs.ListedLaws.{listed_length, fact_place, fact_placed, fact_listed, all_listed, sum_from_within}
+use Rattle.estimate.specs.ListedLaws.{listed_length, fact_place, fact_placed, fact_listed, all_listed}
 
 -- ---- a round
 
@@ -88,15 +88,6 @@ module _ {sizes : List ℕ} {achievers : List Achiever} {s : List ℕ} {numbers 
   pub settling_end : additive_round sizes achievers numbers ≡ numbers → last_numbers sizes achievers s ≡ numbers
   settling_end still = g.same ∙ settled_still (additive_round sizes achievers) numbers still
 
-  -- one round more
-  pub settling_on : Settling sizes achievers s (additive_round sizes achievers numbers)
-  settling_on =
-      record {
-        count = round_length sizes achievers numbers ∙ g.count;
-        within = (additive_lowering sizes achievers).within numbers g.within;
-        same = g.same ∙ settled_on (additive_lowering sizes achievers) numbers g.within;
-      }
-
 -- ---- the answer
 
 -- it is the sum of the goal facts' last numbers
@@ -104,11 +95,6 @@ pub additive_sum : (sizes : List ℕ) (achievers : List Achiever) (goal : Partia
     → additive sizes achievers goal s ≡ sum_from (fact_number sizes numbers) 0 (length sizes) goal
 unfolding additive
 additive_sum sizes achievers goal s e = ap (λ (numbers : List Number). sum_from (fact_number sizes numbers) 0 (length sizes) goal) e
-
--- it is within the cap
-pub additive_within : (sizes : List ℕ) (achievers : List Achiever) (goal : Partial) (s : List ℕ) → WithinCap (additive sizes achievers goal s)
-unfolding additive
-additive_within sizes achievers goal s = sum_from_within (fact_number sizes (last_numbers sizes achievers s)) 0 (length sizes) goal
 
 -- ---- the state's own facts keep the number 0
 

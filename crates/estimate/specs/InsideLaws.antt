@@ -1,15 +1,14 @@
 -- Laws of partial states that lie inside the file and have room among the ranks: they still do without their lowest standing bit, and sums of ranks below never's.
-use Rattle.std.specs.Prelude.{◌≡◌, refl, ℕ, ◌+◌, ◌*◌, ◌-◌, ◌/◌, ◌^◌, ◌≤◌, ◌<◌, min, List, length, get_or}
-use Rattle.std.proofs.Common.{sym, ◌∙◌, arith, pow_mono}
+use Rattle.std.specs.Prelude.{◌≡◌, ℕ, ◌+◌, ◌*◌, ◌-◌, ◌/◌, ◌^◌, ◌≤◌, ◌<◌, min, List, length}
+use Rattle.std.proofs.Common.{arith, pow_mono}
 use Rattle.std.specs.Int.Bits.{bit_and}
 use Rattle.std.proofs.lemmas.Nat.{and_le_r, ones-le}
 use Rattle.facts.specs.Bits.{Lowest}
 use Rattle.facts.specs.BitsLaws.{lowest_below, ones_cleared}
-use Rattle.estimate.specs.Number.{Number, never, sum, rank, ranked, over}
-use Rattle.estimate.specs.NumberLaws.{ranked_sum, sum_never_second}
+use Rattle.estimate.specs.Number.{never, sum, rank, ranked, over}
+use Rattle.estimate.specs.NumberLaws.{ranked_sum}
 use Rattle.estimate.specs.Facts.{most_variables, most_values}
 use Rattle.estimate.specs.Ranks.{Inside}
-use Rattle.estimate.specs.OfferLaws.{Summing, summing_more, summing_never}
 
 -- a map with bits for such variables alone, of the first n, as have room among so many ranks, and enough bytes for its values
 pub inside_of : {f : List ℕ} {from map count few : ℕ} (n : ℕ) → few ≡ min (min n most_variables) (count / most_values) → map < 2 ^ few → map < 2 ^ 64 → from + 64 ≤ length f
@@ -35,9 +34,3 @@ module _ {f : List ℕ} {at m count : ℕ} (g : Inside f at m count) {z a : ℕ}
 -- a rank that is below never's is added to a sum of such ranks, which is over from over's rank on
 pub ranked_add : (total x : ℕ) → x < rank never → ranked (min (total + x) (rank over)) ≡ sum (ranked (min total (rank over))) (ranked x)
 ranked_add total x low = ranked_sum {m = min total (rank over)} {n = x} {r = min (total + x) (rank over)} (omega arith) low (omega arith)
-
--- the next fact's number is never, and so is the whole
-pub summing_fact_never : {of : ℕ → ℕ → Number} {f : List ℕ} {n m at : ℕ} {whole total : Number} → Summing of f n m at whole total → {z a : ℕ} → Lowest m z a → {x : Number} → z < n → at < length f
-    → x ≡ of z (get_or f at 0) → x ≡ never → x ≡ whole
-summing_fact_never {total = total} g e l h q none =
-    let sum_is_lem = sum_never_second total none in none ∙ sum_is_lem ∙ summing_never (summing_more g e l h q refl) (sym sum_is_lem)

@@ -53,18 +53,21 @@ sum_capped m n =
 pub sum_assoc : (a b c : Number) → sum (sum a b) c ≡ sum a (sum b c)
 sum_assoc never b c = refl
 sum_assoc over never c = refl
-sum_assoc over over c = elim c [ never ↦ refl | over ↦ refl | exact z ↦ refl ]
-sum_assoc over (exact y) c = elim c [ never ↦ refl | over ↦ refl | exact z ↦ sym (over_capped (y + z)) ]
+sum_assoc over over never = refl
+sum_assoc over over over = refl
+sum_assoc over over (exact z) = refl
+sum_assoc over (exact y) never = refl
+sum_assoc over (exact y) over = refl
+sum_assoc over (exact y) (exact z) = sym (over_capped (y + z))
 sum_assoc (exact x) never c = refl
-sum_assoc (exact x) over c = elim c [ never ↦ refl | over ↦ refl | exact z ↦ refl ]
-sum_assoc (exact x) (exact y) c =
-    elim c [
-      | never ↦ sum_never (capped (x + y))
-      | over ↦ sum_comm (capped (x + y)) over ∙ over_capped (x + y)
-      | exact z ↦
-          let e : x + y + z ≡ y + z + x = omega arith in
-          capped_sum (x + y) z ∙ ap capped e ∙ sym (capped_sum (y + z) x) ∙ sum_comm (capped (y + z)) (exact x)
-    ]
+sum_assoc (exact x) over never = refl
+sum_assoc (exact x) over over = refl
+sum_assoc (exact x) over (exact z) = refl
+sum_assoc (exact x) (exact y) never = sum_never (capped (x + y))
+sum_assoc (exact x) (exact y) over = sum_comm (capped (x + y)) over ∙ over_capped (x + y)
+sum_assoc (exact x) (exact y) (exact z) =
+    let e : x + y + z ≡ y + z + x = omega arith in
+    capped_sum (x + y) z ∙ ap capped e ∙ sym (capped_sum (y + z) x) ∙ sum_comm (capped (y + z)) (exact x)
 
 -- ---- the lesser of two
 
@@ -89,11 +92,19 @@ lesser_idem (exact n) = ap exact (omega arith)
 pub lesser_assoc : (a b c : Number) → lesser (lesser a b) c ≡ lesser a (lesser b c)
 lesser_assoc never b c = refl
 lesser_assoc over never c = refl
-lesser_assoc over over c = elim c [ never ↦ refl | over ↦ refl | exact z ↦ refl ]
-lesser_assoc over (exact y) c = elim c [ never ↦ refl | over ↦ refl | exact z ↦ refl ]
+lesser_assoc over over never = refl
+lesser_assoc over over over = refl
+lesser_assoc over over (exact z) = refl
+lesser_assoc over (exact y) never = refl
+lesser_assoc over (exact y) over = refl
+lesser_assoc over (exact y) (exact z) = refl
 lesser_assoc (exact x) never c = refl
-lesser_assoc (exact x) over c = elim c [ never ↦ refl | over ↦ refl | exact z ↦ refl ]
-lesser_assoc (exact x) (exact y) c = elim c [ never ↦ refl | over ↦ refl | exact z ↦ ap exact (omega arith) ]
+lesser_assoc (exact x) over never = refl
+lesser_assoc (exact x) over over = refl
+lesser_assoc (exact x) over (exact z) = refl
+lesser_assoc (exact x) (exact y) never = refl
+lesser_assoc (exact x) (exact y) over = refl
+lesser_assoc (exact x) (exact y) (exact z) = ap exact (omega arith)
 
 -- ---- a sum distributes over the lesser of two
 
@@ -114,16 +125,21 @@ lesser_capped m n =
 pub sum_lesser : (a b c : Number) → sum a (lesser b c) ≡ lesser (sum a b) (sum a c)
 sum_lesser never b c = refl
 sum_lesser over never c = refl
-sum_lesser over over c = elim c [ never ↦ refl | over ↦ refl | exact z ↦ refl ]
-sum_lesser over (exact y) c = elim c [ never ↦ refl | over ↦ refl | exact z ↦ refl ]
+sum_lesser over over never = refl
+sum_lesser over over over = refl
+sum_lesser over over (exact z) = refl
+sum_lesser over (exact y) never = refl
+sum_lesser over (exact y) over = refl
+sum_lesser over (exact y) (exact z) = refl
 sum_lesser (exact x) never c = refl
-sum_lesser (exact x) over c = elim c [ never ↦ refl | over ↦ refl | exact z ↦ sym (over_lesser (x + z)) ]
-sum_lesser (exact x) (exact y) c =
-    elim c [
-      | never ↦ sym (lesser_never (capped (x + y)))
-      | over ↦ sym (lesser_comm (capped (x + y)) over ∙ over_lesser (x + y))
-      | exact z ↦ let e : x + min y z ≡ min (x + y) (x + z) = omega arith in ap capped e ∙ sym (lesser_capped (x + y) (x + z))
-    ]
+sum_lesser (exact x) over never = refl
+sum_lesser (exact x) over over = refl
+sum_lesser (exact x) over (exact z) = sym (over_lesser (x + z))
+sum_lesser (exact x) (exact y) never = sym (lesser_never (capped (x + y)))
+sum_lesser (exact x) (exact y) over = sym (lesser_comm (capped (x + y)) over ∙ over_lesser (x + y))
+sum_lesser (exact x) (exact y) (exact z) =
+    let e : x + min y z ≡ min (x + y) (x + z) = omega arith in
+    ap capped e ∙ sym (lesser_capped (x + y) (x + z))
 
 -- ---- the order, in which sums and the lesser of two are monotone
 

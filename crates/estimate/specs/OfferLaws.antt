@@ -9,10 +9,9 @@ use Rattle.facts.specs.Bits.{Lowest}
 use Rattle.facts.specs.BitsLaws.{skip, skip_cleared, first_even, first_odd, above_even, above_odd, cut_values, no_bits}
 use Rattle.facts.specs.Partial.{Partial, rest, above, empty, standing_at}
 use Rattle.estimate.specs.Number.{Number, exact, never, sum, lesser, WithinCap}
-use Rattle.estimate.specs.NumberLaws.{sum_zero, sum_comm, sum_assoc, sum_within, lesser_never, lesser_assoc}
+use Rattle.estimate.specs.NumberLaws.{sum_zero, sum_comm, lesser_never, lesser_assoc}
 use Rattle.estimate.specs.Facts.{most_variables}
 use Rattle.estimate.specs.Additive.{has_value, has, with_number, sum_from, Offer, offered_by}
-use Rattle.estimate.specs.ListedLaws.{sum_from_within}
 use Rattle.estimate.specs.Ranks.{rank_number, Room, HasRanks, after_offer, offered_to, after_fact}
 
 -- ---- the sum
@@ -38,11 +37,11 @@ module _ (of : ℕ → ℕ → Number) (f : List ℕ) (n : ℕ) where
   left_past : (m at v : ℕ) → n ≤ v → Left m at v ≡ exact 0
   left_past m at v l = let k : n - v ≡ 0 = omega arith in ap (λ (k : ℕ). sum_from of v k (standing_at f m at)) k
 
-  left_first : (m at v : ℕ) → v < n
+  pub left_first : (m at v : ℕ) → v < n
       → Left m at v ≡ with_number of v ((standing_at f m at).map % 2) (standing_at f m at).values (sum_from of (suc v) (n - suc v) (above (standing_at f m at)))
   left_first m at v l = let k : n - v ≡ suc (n - suc v) = omega arith in ap (λ (k : ℕ). sum_from of v k (standing_at f m at)) k
 
-  left_even : (at m v : ℕ) → Left (2 * m) at v ≡ Left m at (suc v)
+  pub left_even : (at m v : ℕ) → Left (2 * m) at v ≡ Left m at (suc v)
   left_even at m v = elim (dec_le n v) [
     | yes past ↦ left_past (2 * m) at v past ∙ sym (left_past m at (suc v) (omega arith))
     | no low ↦
@@ -53,17 +52,8 @@ module _ (of : ℕ → ℕ → Number) (f : List ℕ) (n : ℕ) where
   ]
 
   module _ {m z a : ℕ} (e : Lowest m z a) (at v : ℕ) where
-    left_skip : Left m at v ≡ Left (2 * a + 1) at (v + z)
+    pub left_skip : Left m at v ≡ Left (2 * a + 1) at (v + z)
     left_skip = ap (λ (m : ℕ). Left m at v) e.bits ∙ skip (λ m v. Left m at v) (left_even at) z (2 * a + 1) v
-
-    left_next : v + z < n → at < length f → Left m at v ≡ sum (of (v + z) (get_or f at 0)) (Left a (at + 1) (v + z + 1))
-    left_next l h =
-        let others = sum_from of (suc (v + z)) (n - suc (v + z)) (above (standing_at f (2 * a + 1) at)) in
-        left_skip
-        ∙ left_first (2 * a + 1) at (v + z) l
-        ∙ first_odd (λ b values. with_number of (v + z) b values others) f a at h
-        ∙ ap (λ (p : Partial). sum (of (v + z) (get_or f at 0)) (sum_from of (suc (v + z)) (n - suc (v + z)) p)) (above_odd f a at h)
-        ∙ ap (λ (w : ℕ). sum (of (v + z) (get_or f at 0)) (Left a (at + 1) w)) (sym (add-one (v + z)))
 
   left_cut : (m at v : ℕ) → length f ≤ at → Left m at v ≡ exact 0
   left_cut m at v l = ap (sum_from of v (n - v)) (cut_values f m at l) ∙ sum_no_values of v (n - v) m
@@ -75,23 +65,13 @@ module _ (of : ℕ → ℕ → Number) (f : List ℕ) (n : ℕ) where
   abbrev All : ℕ → ℕ → Number
   All m at = sum_from of 0 n (standing_at f m at)
 
-  all_left : (m at : ℕ) → All m at ≡ Left m at 0
+  pub all_left : (m at : ℕ) → All m at ≡ Left m at 0
   all_left m at = let k : n ≡ n - 0 = omega arith in ap (λ (k : ℕ). sum_from of 0 k (standing_at f m at)) k
-
-  all_next : {m z a : ℕ} → Lowest m z a → (at : ℕ) → z < n → at < length f → All m at ≡ sum (of z (get_or f at 0)) (All (bit_and m (m - 1)) (at + 1))
-  all_next {m} {z} e at l h =
-      let here : 0 + z ≡ z = omega arith in
-      all_left m at
-      ∙ left_next e at 0 (omega arith) h
-      ∙ ap₂ (λ (u : ℕ) (others : Number). sum (of u (get_or f at 0)) others) here (sym (all_left (bit_and m (m - 1)) (at + 1) ∙ skip_cleared (λ m v. Left m (at + 1) v) (left_even (at + 1)) e))
 
 -- the whole is the total so far and what is left to add
 pub record Summing (of : ℕ → ℕ → Number) (f : List ℕ) (n m at : ℕ) (whole total : Number) : Type 0 where
   pub within : WithinCap total
   pub same : whole ≡ sum total (sum_from of 0 n (standing_at f m at))
-
-pub summing_start : (of : ℕ → ℕ → Number) (f : List ℕ) (n m at : ℕ) → Summing of f n m at (sum_from of 0 n (standing_at f m at)) (exact 0)
-summing_start of f n m at = record { within = omega arith; same = sym (sum_zero (sum_from of 0 n (standing_at f m at)) (sum_from_within of 0 n (standing_at f m at))) }
 
 module _ {of : ℕ → ℕ → Number} {f : List ℕ} {n m at : ℕ} {whole total : Number} (g : Summing of f n m at whole total) where
   summing_end : sum_from of 0 n (standing_at f m at) ≡ exact 0 → total ≡ whole
@@ -113,15 +93,6 @@ module _ {of : ℕ → ℕ → Number} {f : List ℕ} {n m at : ℕ} {whole tota
     -- the next bit is past the variables
     pub summing_past : n ≤ z → total ≡ whole
     summing_past l = summing_end (all_left of f n m at ∙ left_skip of f n e at 0 ∙ left_past of f n (2 * a + 1) at (0 + z) (omega arith))
-
-    -- the next value is added
-    pub summing_more : {next x : Number} → z < n → at < length f → x ≡ of z (get_or f at 0) → next ≡ sum total x → Summing of f n (bit_and m (m - 1)) (at + 1) whole next
-    summing_more {next} {x} l h q s =
-        let later = sum_from of 0 n (standing_at f (bit_and m (m - 1)) (at + 1)) in
-        record {
-          within = subst WithinCap (sym s) (sum_within total x);
-          same = g.same ∙ ap (sum total) (all_next of f n e at l h ∙ ap (λ b. sum b later) (sym q)) ∙ sym (sum_assoc total x later) ∙ ap (λ b. sum b later) (sym s);
-        }
 
 -- ---- what is offered
 

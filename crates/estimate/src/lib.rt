@@ -1,4 +1,6 @@
 // The numbers of the additive heuristic, document 01's estimate, and the array that has one for every fact. What rounds over them come to is in specs/.
+#![tactic(auto)]
+
 pub mod ranks;
 
 ghost use Rattle.std.specs.Prelude.{◌≡◌, length};
@@ -11,7 +13,7 @@ use facts::Refusal;
 use probefile::Probe;
 
 // A number of the estimate. Never is first, for the first case is what a definition reads past the end of an array.
-#[derive(Drop)]
+#[derive(Clone, Copy)]
 pub enum Est {
     Never,
     Over,
@@ -19,7 +21,7 @@ pub enum Est {
 }
 
 // What an estimate answers.
-#[derive(Drop)]
+#[derive(Clone, Copy)]
 pub enum Estimated {
     Number(Est),
     Refused(Refusal),

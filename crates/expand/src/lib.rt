@@ -1,4 +1,6 @@
 // Expanding: the probe list that comes from a list of actions.
+#![tactic(auto)]
+
 ghost use Rattle.std.specs.Prelude.{◌≡◌, ◌*◌, ◌≤◌, length};
 ghost use Rattle.taskfile.specs.Task.{max_list, max_entries};
 ghost use Rattle.taskfile.specs.Blank.{file_of};

@@ -1,4 +1,6 @@
 // A list of actions run, and its probe list written in the same walk.
+#![tactic(auto)]
+
 mod path;
 
 ghost use Rattle.std.specs.Prelude.{◌+◌, ◌*◌, ◌≤◌, length};

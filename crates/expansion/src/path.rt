@@ -17,14 +17,14 @@ use taskfile::Task;
 use walk::edge_for;
 
 // What an action answers, and how many entries were written for it.
-#[derive(Drop)]
+#[derive(Clone, Copy)]
 pub struct Put {
     pub answer: Applied,
     pub written: usize,
 }
 
 // The weights of the edges passed, and how many entries were written.
-#[derive(Drop)]
+#[derive(Clone, Copy)]
 pub struct Path {
     pub cost: u32,
     pub written: usize,

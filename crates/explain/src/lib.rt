@@ -1,4 +1,6 @@
 // A sentence that explains a refusal.
+#![tactic(auto)]
+
 ghost use Rattle.text.specs.Append.{Adds};
 ghost use Rattle.report.specs.Report.{explanation, outside_text, value_text, long_text, limit_text, missing_text, entry_text};
 

@@ -7,7 +7,7 @@ use Rattle.std.proofs.Math.Bool.{and-eq-true_iff}
 use mathlib.Core.List.{List, [], ◌∷◌}
 use Rattle.std.proofs.Math.Dec.{leb, ltb}
 use borrow.Author.Tests.{leb-true, ltb-true, le-leb, lt-leb, le-ltb, lt-ltb}
-use Rattle.facts.specs.Read.{accepted, refused, check, ◌>>=◌}
+use Rattle.facts.specs.Read.{accepted, refused, check}
 use Rattle.facts.specs.ReadLaws.{through, checked, value_of_lem, next_of_lem, carried}
 use Rattle.facts.specs.Lists.{Zip, nil, cons}
 use Rattle.facts.specs.Bytes.{number_at, Bytes}

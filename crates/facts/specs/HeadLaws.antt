@@ -5,7 +5,7 @@ use Rattle.std.proofs.Common.{◌∙◌, arith}
 use Prim.Native.Nat.{ℕ, zero, suc, ◌+◌, ◌*◌, ◌-◌, ◌≤◌}
 use mathlib.Core.List.{List}
 use Rattle.std.proofs.Math.ListN.{length, take}
-use Rattle.facts.specs.Read.{accepted, refused, ◌>>=◌}
+use Rattle.facts.specs.Read.{accepted, refused}
 use Rattle.facts.specs.ReadLaws.{Made, made, not_made, through, value_of_lem, next_of_lem, carried}
 use Rattle.facts.specs.Lists.{up_from, All}
 use Rattle.facts.specs.ListLaws.{length_up_from, zip_length, zip_all}

@@ -1,7 +1,7 @@
 -- Laws of reading an operator: the ways in which it can go, and what an accepted one is.
 use Rattle.std.specs.Prelude.{◌≡◌, refl, ℕ, ◌+◌, true, List}
 use Rattle.std.proofs.Common.{ap, ◌∙◌}
-use Rattle.facts.specs.Read.{accepted, refused, ◌>>=◌}
+use Rattle.facts.specs.Read.{accepted, refused}
 use Rattle.facts.specs.ReadLaws.{through, made, not_made, carried}
 use Rattle.facts.specs.Partial.{Partial}
 use Rattle.facts.specs.Fields.{next_of, Operator, read_number, read_weight, read_partial, read_operator}

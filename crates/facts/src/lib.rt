@@ -1,4 +1,6 @@
 // What task files and probe files share, the lowest layer: refusals, numbers and partial states in place, and states.
+#![tactic(auto)]
+
 pub mod number;
 pub mod write;
 
@@ -7,7 +9,7 @@ ghost use Rattle.facts.specs.Refusal.{number, place, refusal_with};
 ghost use Rattle.facts.specs.Answers.{numbered_answer};
 
 // Why an input is turned down, each with its place (document 01, "Turned down").
-#[derive(Drop)]
+#[derive(Clone, Copy)]
 pub enum Refusal {
     // 1: the file ends before or inside a field
     Ends(usize),
@@ -80,7 +82,7 @@ pub fn refusal_place(why: Refusal) -> usize
 }
 
 // The refusal that has a number, if there is one.
-#[derive(Drop)]
+#[derive(Clone, Copy)]
 pub enum Numbered {
     Is(Refusal),
     Not,
@@ -109,49 +111,49 @@ pub fn refusal_with(number: u64, place: usize) -> Numbered
 }
 
 // A number that was read.
-#[derive(Drop)]
+#[derive(Clone, Copy)]
 pub enum Field {
     Value(u64),
     Refused(Refusal),
 }
 
 // Where the next field starts.
-#[derive(Drop)]
+#[derive(Clone, Copy)]
 pub enum Past {
     Next(usize),
     Refused(Refusal),
 }
 
 // Whether an input is accepted.
-#[derive(Drop)]
+#[derive(Clone, Copy)]
 pub enum Checked {
     Accepted,
     Refused(Refusal),
 }
 
 // The head of a file: the number of its variables, and where the field after the goal starts.
-#[derive(Drop)]
+#[derive(Clone, Copy)]
 pub enum Headed {
     Head(usize, usize),
     Refused(Refusal),
 }
 
 // What a run answers.
-#[derive(Drop)]
+#[derive(Clone, Copy)]
 pub enum Ran {
     Sum(u32),
     Refused(Refusal),
 }
 
 // What an action or a step answers; the state stands beside it.
-#[derive(Drop)]
+#[derive(Clone, Copy)]
 pub enum Applied {
     Next(u32),
     Blocked,
 }
 
 // Whether a partial state holds, and if so where it ends.
-#[derive(Drop)]
+#[derive(Clone, Copy)]
 pub enum Held {
     Ends(usize),
     Not,

@@ -11,7 +11,8 @@ use Rattle.taskfile.specs.Task.{Action, Task, max_list}
 use Rattle.taskfile.specs.TaskFile.{read_task, check_task}
 use Rattle.taskfile.specs.Blank.{file_of}
 use Rattle.taskfile.specs.Index.{Ready}
-use Rattle.taskfile.specs.AnswerLaws.{there, starts}
+use Rattle.taskfile.specs.AnswerLaws.{there}
+use Rattle.taskfile.proofs.AnswerLaws.{starts}
 use Rattle.taskfile.specs.PartsInPlaceLaws.{at_some, action_here}
 use Rattle.probefile.specs.Probe.{Step, Probe, max_list as maxProbeList}
 use Rattle.probefile.specs.InPlace.{probe_at, step_at, Located}

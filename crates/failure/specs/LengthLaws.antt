@@ -6,7 +6,7 @@ use mathlib.Core.List.{List, [], ◌∷◌, ◌++◌}
 use native.Mathlib.Omega.{arith}
 use Rattle.std.proofs.Common.{length-append}
 use borrow.Author.Tests.{ltb-true, leb-true}
-use Rattle.facts.specs.Read.{accepted, check, ◌>>=◌}
+use Rattle.facts.specs.Read.{accepted, check}
 use Rattle.facts.specs.ReadLaws.{through, checked, made}
 use Rattle.facts.specs.Lists.{All}
 use Rattle.facts.specs.ListLaws.{look, all_at}
@@ -19,7 +19,7 @@ use Rattle.facts.specs.Run.{at_most}
 use Rattle.taskfile.specs.Task.{max_list, max_values as maxTaskValues}
 use Rattle.taskfile.specs.TaskFile.{read_task}
 use Rattle.taskfile.specs.PartsInPlaceLaws.{at_some}
-use Rattle.taskfile.specs.TaskReadLaws.{task_wf, task_limits}
+use Rattle.taskfile.proofs.TaskReadLaws.{task_wf, task_limits}
 use Rattle.probefile.specs.Probe.{WfStep, max_variables, max_values, max_list as maxProbeList}
 use Rattle.probefile.specs.ProbeFile.{read_probe}
 use Rattle.probefile.specs.ProbeLaws.{probe_wf}
@@ -27,7 +27,7 @@ use Rattle.text.specs.Text.{decimal}
 use Rattle.text.specs.Append.{bytes}
 use Rattle.text.specs.PrintLaws.{digits_most}
 use Rattle.words.specs.Words.{bits_text}
-use Rattle.words.specs.LengthLaws.{two}
+use Rattle.words.proofs.LengthLaws.{two}
 use Rattle.failure.specs.Failure.{unlike_text, failed_text, failures_text, Halt, stopped, ended, onward, halt_from, goal_text, halt_text, failure, action_pre, action_eff, step_pre, step_eff, task_failure, probe_failure}
 
 -- the most bytes of why a list is no plan

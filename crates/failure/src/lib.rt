@@ -1,4 +1,6 @@
 // Why a list is no plan: the entry that does not apply, or the goal, with each fact that fails and the value that is there.
+#![tactic(auto)]
+
 mod run;
 pub mod sentence;
 
@@ -19,14 +21,14 @@ use taskfile::{Counted, Task};
 use words::Described;
 
 // Where a run comes to its end: at entry i, number a, whose precondition is at an offset and does not hold; or past the last entry.
-#[derive(Drop)]
+#[derive(Clone, Copy)]
 pub enum Stop {
     Entry(usize, usize, usize),
     End,
 }
 
 // The same; or the index of a number that there is not.
-#[derive(Drop)]
+#[derive(Clone, Copy)]
 pub enum Halted {
     At(Stop),
     Missing(usize),
@@ -84,7 +86,7 @@ fn failure_in(
     let init = 1 + variables;
     let goal = init + variables;
     let mut state = [0; Probe::MAX_VARIABLES];
-    bytes::copy(&file[init..goal], &mut state[..variables]);
+    state[..variables].copy_from_slice(&file[init..goal]);
     failure_from(
         file,
         goal,

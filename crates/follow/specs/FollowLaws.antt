@@ -20,9 +20,10 @@ use Rattle.taskfile.specs.Task.{Action, Task, WfAction, max_weight, max_list, ta
 use Rattle.taskfile.specs.TaskLaws.{task_plan}
 use Rattle.taskfile.specs.Blank.{file_of}
 use Rattle.taskfile.specs.Index.{Ready}
-use Rattle.taskfile.specs.AnswerLaws.{there as task-there, starts}
+use Rattle.taskfile.specs.AnswerLaws.{there as task-there}
+use Rattle.taskfile.proofs.AnswerLaws.{starts}
 use Rattle.taskfile.specs.Row.{firsts_from, own_from}
-use Rattle.taskfile.specs.MoveInPlaceLaws.{sum_in_place}
+use Rattle.taskfile.proofs.MoveInPlaceLaws.{sum_in_place}
 use Rattle.taskfile.specs.WalkInPlace.{way_from, max_walk, move_by, move_at}
 use Rattle.taskfile.specs.WalkInPlaceLaws.{turn_none}
 use Rattle.taskfile.specs.PartsInPlace.{nodes_in, action_in, actions_in}
@@ -137,11 +138,12 @@ noted_start {actions} {action_of_lem} n {r} {action} e some-start = go (started_
 pub walkable_there : {f sizes : List ℕ} {count : ℕ} {row first_step first_edge action_of_lem s : List ℕ} → Followable f sizes count row first_step first_edge action_of_lem → Inside sizes s
     → {a next r : ℕ} {own own-edges : List ℕ} → a < count → own ≡ drop (own_from row a) row → own-edges ≡ drop (get_or row (firsts_from + a) 0) first_edge
     → next ≡ get_or first_step (1 + a) 0 → r ≡ first_step_of (actions_in f sizes row 0 count) a → Walkable sizes (action_in f sizes (get_or row a 0) own).nodes own-edges r next s
-walkable_there {f} {sizes} {count} {row} {first_step} p inside {a} known o oe n r =
+walkable_there {f} {sizes} {count} {row} {first_step} {s = s} p inside {a} {next} {r = step} {own-edges = own-edges} known o oe n r =
     let element = actions_at f sizes row a count known in
     let one : 1 + a ≡ suc a = omega arith in
     let after = n ∙ ap (λ (k : ℕ). get_or first_step k 0) one ∙ p.numbered.numbers (suc a) (omega (arith, at_length element)) ∙ total_next step_count element in
-    rw (o, oe, r, after)
+    subst (λ (own : List ℕ). Walkable sizes (action_in f sizes (get_or row a 0) own).nodes own-edges step next s) (sym o)
+    (rw (oe, r, after)
     (record {
       well_formed = (p.well_formed a known).nodes;
       inside = inside;
@@ -149,7 +151,7 @@ walkable_there {f} {sizes} {count} {row} {first_step} p inside {a} known o oe n 
       next_is = omega arith;
       few = omega (arith, total_take step_count element, p.few);
       fits = omega arith;
-    })
+    }))
 
 -- The first i entries of the list come from actions that lead from the state `from` to s with this sum, and that are written at the front of a buffer.
 pub record Following (f sizes : List ℕ) (count : ℕ) (row : List ℕ) (goal : Partial) (list from before now s : List ℕ) (i sum written : ℕ) : Type 0 where

@@ -1,4 +1,6 @@
 // A probe list followed in place on the task: the entries of each action are held against the walk of its diagram.
+#![tactic(auto)]
+
 ghost use Rattle.std.specs.Prelude.{◌≡◌, ◌+◌, ◌≤◌, ◌<◌, length, get_or};
 ghost use Rattle.facts.specs.State.{Inside};
 ghost use Rattle.taskfile.specs.Blank.{file_of};
@@ -17,14 +19,14 @@ use taskfile::Task;
 use walk::{diagram_past, edge_for, own_nodes};
 
 // Where the entries of an action end in a list, and what it costs; or the list has other entries.
-#[derive(Drop)]
+#[derive(Clone, Copy)]
 pub enum Trail {
     To(usize, u32),
     Astray,
 }
 
 // How many actions a list comes from, and their sum; or it is no plan.
-#[derive(Drop)]
+#[derive(Clone, Copy)]
 pub enum Followed {
     Plan(usize, u32),
     Astray,

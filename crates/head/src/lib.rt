@@ -1,4 +1,6 @@
 // The head of a file: the number of variables, their domain sizes, the initial values and the goal.
+#![tactic(auto)]
+
 ghost use Rattle.std.specs.Prelude.{◌≡◌};
 ghost use Rattle.facts.specs.Answers.{field_answer, past_answer, headed_answer};
 ghost use Rattle.facts.specs.Fields.{next_of, value_of, read_count, read_values, read_sizes, head_at};

@@ -1,4 +1,6 @@
 // The index of a task file, noted in a lent row by the one pass that checks the file.
+#![tactic(auto)]
+
 mod pass;
 
 ghost use Rattle.std.specs.Prelude.{◌≡◌, length};

@@ -23,7 +23,8 @@ pub fn index_into(file: &[u8], row: &mut [usize]) -> Counted
 {
     match head::read_head(file, Task::MAX_VARIABLES as u64, Task::MAX_VALUES as u64) {
         Headed::Refused(why) => {
-            if file.len() == 0 {
+            let blank = file.len() == 0;
+            if blank {
                 return Counted::Actions(1, 0);
             }
             Counted::Refused(why)

@@ -3,9 +3,9 @@ use Rattle.std.specs.Prelude.{ℕ, ◌≤◌, ◌≡◌}
 use Rattle.std.proofs.Common.{ap, arith}
 use Rattle.facts.specs.Read.{accepted}
 use Rattle.charge.specs.Charge.{charge_of}
-use Rattle.charge.specs.ChargeLaws.{charge_most}
+use Rattle.charge.proofs.ChargeLaws.{charge_most}
 use Rattle.packing.specs.Packing.{packed_sum, unpacked, unpacked_sum}
-use Rattle.packing.specs.PackingLaws.{refusal_of_lem, sum_of_lem}
+use Rattle.packing.proofs.PackingLaws.{refusal_of_lem, sum_of_lem}
 
 pub charge_result : (sum : ℕ) → sum ≤ 4294967295 → unpacked_sum (packed_sum (accepted (charge_of sum))) ≡ accepted (charge_of sum)
 charge_result sum l =

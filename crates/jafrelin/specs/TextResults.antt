@@ -12,16 +12,16 @@ use Rattle.taskfile.specs.TaskFile.{read_task, action_of}
 use Rattle.probefile.specs.Probe.{max_list}
 use Rattle.carry.specs.SameSumLaws.{fits_inv}
 use Rattle.words.specs.DescribeFile.{shown, drawn, drawn_action}
-use Rattle.words.specs.LengthLaws.{accepted_same, shown_most, drawn_most, drawn_action_most}
+use Rattle.words.proofs.LengthLaws.{accepted_same, shown_most, drawn_most, drawn_action_most}
 use Rattle.steps.specs.Steps.{Named, names_of, check_steps}
 use Rattle.trace.specs.TraceFile.{traced}
 use Rattle.trace.specs.LengthLaws.{most_trace, traced_most}
 use Rattle.sentence.specs.Sentence.{subject_of, sentence}
 use Rattle.sentence.specs.SentenceLaws.{sentence_most}
-use Rattle.cases.specs.Numbers.{numbers_of_files}
+use Rattle.cases.proofs.Numbers.{numbers_of_files}
 use Rattle.cases.specs.PlaceLaws.{Placed, value, place, task_places}
 use Rattle.packing.specs.Packing.{packed_length, unpacked_length, refusal_of, place_of}
-use Rattle.packing.specs.PackingLaws.{length_comes, refusal_comes}
+use Rattle.packing.proofs.PackingLaws.{length_comes, refusal_comes}
 
 -- ---- the theorem
 

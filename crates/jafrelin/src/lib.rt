@@ -1,4 +1,6 @@
 // The operations as C functions, for the static library; include/jafrelin.h declares them. A slice is a pointer and a length.
+#![tactic(auto)]
+
 ghost use Rattle.std.specs.Prelude.{◌≡◌, ltb, length};
 ghost use Rattle.facts.specs.Read.{accepted};
 ghost use Rattle.facts.specs.Write.{length_in, written_in};

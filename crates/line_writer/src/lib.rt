@@ -1,4 +1,6 @@
 // The lines of a plan's sheet, written into a buffer. Document 02, W12.
+#![tactic(auto)]
+
 mod line;
 
 ghost use Rattle.std.specs.Prelude.{◌≡◌, ◌+◌, ◌*◌, ◌≤◌, ◌++◌, length};

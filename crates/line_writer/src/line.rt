@@ -21,7 +21,9 @@ pub fn put_line(pairs: &[u8], index: u32, action: u32, cost: u32, sum: u32, out:
     requires { (pairs.now ≡ two_digits) × Narrow (record { index = index; action = action; cost = cost; sum = sum }) × (line_bytes ≤ length out.old) }
     ensures { Wrote (line_text (record { index = index; action = action; cost = cost; sum = sum })) out.old out.new result }
 {
-    let end = bytes::copy(b"                        \n", out);
+    let blank: &[u8] = b"                        \n";
+    let end = blank.len();
+    out[..end].copy_from_slice(blank);
     put_number(pairs, out, INDEX, index);
     put_number(pairs, out, ACTION, action);
     put_number(pairs, out, COST, cost);
@@ -34,7 +36,9 @@ pub fn put_last(pairs: &[u8], sum: u32, out: &mut [u8]) -> usize
     requires { (pairs.now ≡ two_digits) × (sum ≤ most_sum) × (line_bytes ≤ length out.old) }
     ensures { Wrote (last_text sum) out.old out.new result }
 {
-    let end = bytes::copy(b"sum                     \n", out);
+    let blank: &[u8] = b"sum                     \n";
+    let end = blank.len();
+    out[..end].copy_from_slice(blank);
     put_number(pairs, out, LAST, sum);
     end
 }

@@ -1,4 +1,6 @@
 // A plan measured by its run, before its probe list is written.
+#![tactic(auto)]
+
 ghost use Rattle.std.specs.Prelude.{◌≡◌};
 ghost use Rattle.measure.specs.Measure.{measured, measured_answer};
 
@@ -6,7 +8,7 @@ use facts::Refusal;
 use taskfile::Tallied;
 
 // The sum of a plan, how many nodes its actions pass, and how many entries the list has that expanding returns.
-#[derive(Drop)]
+#[derive(Clone, Copy)]
 pub enum Measured {
     Plan(u32, usize, usize),
     Refused(Refusal),

@@ -4,7 +4,7 @@ use Rattle.std.proofs.Common.{sym, ap, subst, ◌∙◌, add-one, arith, length-
 use borrow.Rule.Slice.PartMut.{put_mid}
 use Rattle.facts.specs.Lists.{total, At}
 use Rattle.facts.specs.ListLaws.{look, at_length}
-use Rattle.facts.specs.Read.{Read, accepted, refused, ◌>>=◌}
+use Rattle.facts.specs.Read.{Read, accepted, refused}
 use Rattle.facts.specs.ReadLaws.{through, not_made}
 use Rattle.facts.specs.Partial.{Partial, holds, apply, partial_at, past_partial}
 use Rattle.facts.specs.PartialLaws.{apply_inside}
@@ -15,21 +15,23 @@ use Rattle.facts.specs.Run.{next as went, attempt, at_most}
 use Rattle.facts.specs.RunLaws.{attempt_next, attempt_blocked, not_blocked, list_long}
 use Rattle.taskfile.specs.Task.{Action, Task, Walk, max_list, Plan, WfAction, max_entries}
 use Rattle.taskfile.specs.TaskFile.{read_task, check_task, sum_task}
-use Rattle.taskfile.specs.TaskReadLaws.{task_wf, task_limits}
+use Rattle.taskfile.proofs.TaskReadLaws.{task_wf, task_limits}
 use Rattle.taskfile.specs.TaskLaws.{task_plan}
 use Rattle.taskfile.specs.Blank.{file_of}
 use Rattle.taskfile.specs.Index.{Ready}
 use Rattle.taskfile.specs.Row.{firsts_from, own_from}
 use Rattle.taskfile.specs.WalkInPlace.{node_count, walk_at, perform_by, perform_at}
-use Rattle.taskfile.specs.AnswerLaws.{there as task-there, starts}
+use Rattle.taskfile.specs.AnswerLaws.{there as task-there}
+use Rattle.taskfile.proofs.AnswerLaws.{starts}
 use Rattle.compilation.specs.Compile.{step_count}
 use Rattle.taskfile.specs.PartsInPlace.{action_in, actions_in, Tested}
-use Rattle.taskfile.specs.PartsInPlaceLaws.{reads, actions_stood, actions_in_place}
+use Rattle.taskfile.specs.PartsInPlaceLaws.{reads, actions_in_place}
+use Rattle.taskfile.proofs.PartsInPlaceLaws.{actions_stood}
 use Rattle.probe_writer.specs.ExtentLaws.{weighs}
 use Rattle.facts.specs.WriteRowLaws.{Cut, Going, going_more, going_end}
 use Rattle.plans.specs.Carry.{action_list, expand_from, expand}
 use Rattle.plans.specs.ListLaws.{total_take}
-use Rattle.plans.specs.LengthLaws.{expand_limit, expand_entries}
+use Rattle.plans.proofs.LengthLaws.{expand_limit, expand_entries}
 use Rattle.carry.specs.CarryFile.{expanded}
 use Rattle.numbering.specs.InPlace.{Edges, Numbered, Writable, expansion, WroteIf, Prepared}
 use Rattle.numbering.specs.NumberLaws.{actions_at, total_next, actions_are, steps_few, all_tested}

@@ -4,12 +4,11 @@ use Rattle.std.proofs.Common.{sym, ap, subst, ◌∙◌, add-one, arith, length-
 use Rattle.std.proofs.Math.Option.{Option, none, some}
 use Rattle.std.proofs.lemmas.List.{length-replicate}
 use Rattle.std.proofs.lemmas.Bool.{eqb-false}
-use Rattle.facts.specs.Read.{◌>>=◌}
 use Rattle.facts.specs.Lists.{total}
 use Rattle.taskfile.specs.Task.{Action, Task}
 use Rattle.taskfile.specs.Blank.{file_of}
 use Rattle.taskfile.specs.Index.{Ready}
-use Rattle.taskfile.specs.TaskReadLaws.{task_wf, task_limits}
+use Rattle.taskfile.proofs.TaskReadLaws.{task_wf, task_limits}
 use Rattle.taskfile.specs.AnswerLaws.{there as task-there}
 use Rattle.compilation.specs.Compile.{step_count}
 use Rattle.compilation.specs.StepLaws.{steps_length, steps_most}

@@ -7,7 +7,7 @@ use borrow.Rule.Slice.PartMut.{put_mid, post_of, take_put}
 use Rattle.facts.specs.Lists.{total, At, here, there}
 use Rattle.facts.specs.ListLaws.{at_length}
 use Rattle.taskfile.specs.Task.{Node, Action, Task, max_nodes, WfAction}
-use Rattle.taskfile.specs.TaskReadLaws.{task_wf, task_limits}
+use Rattle.taskfile.proofs.TaskReadLaws.{task_wf, task_limits}
 use Rattle.taskfile.specs.Index.{Ready}
 use Rattle.taskfile.specs.AnswerLaws.{there as task-there}
 use Rattle.taskfile.specs.MoveInPlaceLaws.{own_nodes}
@@ -16,7 +16,8 @@ use Rattle.taskfile.specs.WalkInPlace.{node_count}
 use Rattle.compilation.specs.Compile.{edge_count, step_count}
 use Rattle.compilation.specs.StepLaws.{steps_length, steps_most}
 use Rattle.taskfile.specs.PartsInPlace.{node_in, nodes_in, action_in, actions_in, Tested}
-use Rattle.taskfile.specs.PartsInPlaceLaws.{reads, actions_stood, actions_in_place}
+use Rattle.taskfile.specs.PartsInPlaceLaws.{reads, actions_in_place}
+use Rattle.taskfile.proofs.PartsInPlaceLaws.{actions_stood}
 use Rattle.probe_writer.specs.InPlaceLaws.{edges_long}
 use Rattle.plans.specs.Carry.{first_step_of}
 use Rattle.plans.specs.ListLaws.{total_take, at_same}
@@ -62,7 +63,7 @@ module _ {A : Type 0} (size : A → ℕ) where
   total_later : {xs : List A} {b : ℕ} {y : A} (a : ℕ) → At xs b y → b < a → total size (take b xs) + size y ≤ total size (take a xs)
   total_later zero h l = absurd (omega arith)
   total_later (suc a) here l = omega arith
-  total_later (suc a) (there h) l = omega (arith, total_later a h (omega arith))
+  total_later (suc a) (there {xs = xs} h) l = omega (arith, total_later {xs = xs} a h (omega arith))
 
 -- ---- the first edges of an action's nodes
 

@@ -1,4 +1,6 @@
 // The steps of a task's probe file, numbered in place.
+#![tactic(auto)]
+
 ghost use Rattle.std.specs.Prelude.{◌≡◌, ℕ, ◌+◌, ◌*◌, ◌≤◌, ◌<◌, length, get_or, take, drop};
 ghost use Rattle.facts.specs.Lists.{total};
 ghost use Rattle.facts.specs.Write.{Wrote};
@@ -91,7 +93,7 @@ pub fn initial(file: &[u8], variables: usize) -> [u8; Task::MAX_VARIABLES]
     let init = 1 + variables;
     let goal = init + variables;
     let mut state = [0; Task::MAX_VARIABLES];
-    bytes::copy(&file[init..goal], &mut state[..variables]);
+    state[..variables].copy_from_slice(&file[init..goal]);
     state
 }
 

@@ -1,22 +1,24 @@
 // The facts of a partial state in place: the sum of their numbers, and what is offered to them.
+#![tactic(auto)]
+
 mod inside;
 
 ghost use Rattle.std.specs.Prelude.{◌≡◌, ◌+◌, ◌≤◌, length};
 ghost use Rattle.std.specs.Int.Count.{ones};
 ghost use Rattle.facts.specs.Partial.{standing_at, partial_at, past_partial};
 ghost use Rattle.estimate.specs.Number.{number, ranked};
-ghost use Rattle.estimate.specs.Facts.{number_in};
+ghost use Rattle.estimate.specs.Facts.{number_in, HasFacts};
 ghost use Rattle.estimate.specs.Additive.{sum_from};
-ghost use Rattle.estimate.specs.Ranks.{rank_number, SumEnds, HasRanks, Fell, after_offer, after_fact};
+ghost use Rattle.estimate.specs.Ranks.{rank_number, Roomy, SumEnds, HasRanks, Fell, after_offer, after_fact, started_over};
 
 use crate::inside::{fact_lowered, inside, lower_inside, sum_inside};
 use estimate::Est;
-use estimate::ranks::{NEVER, rank_of, sum_rank};
+use estimate::ranks::{NEVER, rank, rank_of, ranked, sum_rank};
 use facts::Field;
 use probefile::Probe;
 
 // The sum of the numbers of a partial state's facts, by its rank, and where the partial state ends; a sum that is never says nothing about the end.
-#[derive(Drop)]
+#[derive(Clone, Copy)]
 pub struct Summed {
     pub rank: u64,
     pub end: usize,
@@ -79,6 +81,13 @@ fn values_sum(file: &[u8], at: usize, map: u64, n: usize, ranks: &[u64]) -> Summ
 pub fn goal_sum(file: &[u8], at: usize, n: usize, numbers: [Est; Probe::FACTS]) -> Est
     ensures { number result ≡ sum_from (number_in numbers) 0 n (partial_at file.now at) }
 {
+    goal_sum_in(file, at, n, &numbers)
+}
+
+// The same of an array that stays where it is.
+pub fn goal_sum_in(file: &[u8], at: usize, n: usize, numbers: &[Est]) -> Est
+    ensures { number result ≡ sum_from (number_in numbers.now) 0 n (partial_at file.now at) }
+{
     let mut total = Est::Exact(0);
     let Field::Value(map) = facts::number::read_map(file, at) else {
         return total;
@@ -95,7 +104,7 @@ pub fn goal_sum(file: &[u8], at: usize, n: usize, numbers: [Est; Probe::FACTS]) 
             return total;
         }
         let i = v * Probe::MAX_VALUES + file[end] as usize;
-        if Probe::FACTS <= i {
+        if numbers.len() <= i {
             return Est::Never;
         }
         total = estimate::sum(total, numbers[i]);
@@ -103,6 +112,45 @@ pub fn goal_sum(file: &[u8], at: usize, n: usize, numbers: [Est; Probe::FACTS]) 
         end += 1;
     }
     total
+}
+
+// Lowers ranks to the numbers with which the estimate from a state starts: 0 for the facts of the state.
+pub fn start_in(state: &[u8], ranks: &mut [u64])
+    ensures { HasRanks ranks.new (started_over (rank_number ranks.old) state.now) }
+{
+    for v in 0..Probe::MAX_VARIABLES {
+        if state.len() <= v {
+            return;
+        }
+        let d = state[v] as usize;
+        if Probe::MAX_VALUES <= d {
+            continue;
+        }
+        let i = v * Probe::MAX_VALUES + d;
+        if ranks.len() <= i {
+            continue;
+        }
+        ranks[i] = rank(Est::Exact(0));
+    }
+}
+
+// Puts the last numbers back into an array, from their ranks: those of all facts of the file, variable by variable and value by value.
+pub fn put_back_in(last: &mut [Est; Probe::FACTS], sizes: &[u8], ranks: &[u64])
+    requires { Roomy sizes.now (length ranks.now) }
+    ensures { HasFacts sizes.now last.new (rank_number ranks.now) }
+{
+    let mut v = 0;
+    let mut d = 0;
+    while v < sizes.len() {
+        if sizes[v] as usize <= d {
+            v += 1;
+            d = 0;
+            continue;
+        }
+        let place = v * Probe::MAX_VALUES + d;
+        last[place] = ranked(ranks[place]);
+        d += 1;
+    }
 }
 
 // Offers a number, by its rank, to each fact of the partial state at an offset, which then has the lesser of its own and the offer; whether a rank fell.

@@ -8,13 +8,13 @@ use Rattle.facts.specs.Read.{Read, accepted, refused, ◌>>=◌}
 use Rattle.facts.specs.Bytes.{Bytes}
 use Rattle.taskfile.specs.Task.{Action, Task, max_variables, max_bytes, max_cost}
 use Rattle.taskfile.specs.TaskFile.{read_task}
-use Rattle.taskfile.specs.TaskReadLaws.{task_limits}
+use Rattle.taskfile.proofs.TaskReadLaws.{task_limits}
 use Rattle.probefile.specs.Probe.{max_list as maxProbeList}
 use Rattle.carry.specs.CarryFile.{answer_in}
 use Rattle.dearest.specs.Dearest.{dearest_state, greatest_cost, dearest_of}
-use Rattle.dearest.specs.FileLaws.{dearest_given, dearest_most}
+use Rattle.dearest.proofs.FileLaws.{dearest_given, dearest_most}
 use Rattle.cases.specs.SiteLaws.{not_accepted}
-use Rattle.cases.specs.TaskSiteLaws.{task_faults}
+use Rattle.cases.proofs.TaskSiteLaws.{task_faults}
 use Rattle.cases.specs.FileRows.{file_numbers}
 use Rattle.cases.specs.PlaceLaws.{Within, value, place, Placed, task_places}
 use Rattle.cases.specs.OperationRows.{Given, given, by_given, answer_room}

@@ -4,5 +4,5 @@ pub mod Packing
 pub mod SheetRange
 -- When a dearest state is refused, and how large its answer can be.
 pub mod DearestRange
--- Results unpacked are the answers of the operations: read this first.
+-- Results unpacked are the answers of the operations: read this first. The theorem is in proofs/PackingLaws.antt.
 pub mod PackingLaws

@@ -12,8 +12,10 @@ use Rattle.sheet.specs.SheetFile.{sheet_of}
 use Rattle.sheet.specs.FileLaws.{most_sheet, as_in_a_run, sheet_most}
 use Rattle.cases.specs.PlaceLaws.{Within, made_within, of_made, more_within}
 use Rattle.cases.specs.OperationRows.{by_given, answer_room}
-use Rattle.cases.specs.Numbers.{OfLists, numbers_of_lists}
-use Rattle.cases.specs.Ranges.{most_of_task, Written, answer_range, run_task_range}
+use Rattle.cases.specs.Numbers.{OfLists}
+use Rattle.cases.proofs.Numbers.{numbers_of_lists}
+use Rattle.cases.specs.Ranges.{most_of_task, Written, answer_range}
+use Rattle.cases.proofs.Ranges.{run_task_range}
 
 pub sheet_range : (f : List ℕ) → Bytes f → (list : List ℕ) (room : ℕ) → Within (Written most_sheet most_of_task) maxProbeList (answer_in room (sheet_of f list))
 sheet_range f bytes list room =

@@ -1,4 +1,6 @@
 // Answers packed into the 64 bits that a C function returns.
+#![tactic(auto)]
+
 ghost use Rattle.std.specs.Prelude.{◌≡◌};
 ghost use Rattle.facts.specs.Refusal.{number, place};
 ghost use Rattle.facts.specs.Answers.{checked_answer, ran_answer};

@@ -1,4 +1,6 @@
 // Partial states in place: read, held against a state, applied to one; states handed in, checked.
+#![tactic(auto)]
+
 pub mod state;
 
 ghost use Rattle.std.specs.Prelude.{◌≡◌, ◌+◌, ◌^◌, ◌≤◌, ◌<◌, leb, length};
@@ -76,7 +78,7 @@ pub fn stray(map: u64, n: usize) -> bool
 }
 
 // The lowest standing bit of a map: how many bits lie below it, and the bits above it.
-#[derive(Drop)]
+#[derive(Clone, Copy)]
 pub struct Bit {
     pub zeros: usize,
     pub above: u64,

@@ -1,6 +1,6 @@
 -- Task P's action twice over, carried across either way, with the sums on both sides. Document 01's own cases are in crate `cases`.
 use Rattle.std.specs.Prelude.{◌≡◌, refl, [], ◌∷◌}
-use Rattle.facts.specs.Read.{accepted, refused}
+use Rattle.facts.specs.Read.{accepted}
 use Rattle.facts.specs.Run.{run_from}
 use Rattle.taskfile.specs.Task.{walk_from, walk, action_move, action_passes, task_sum, task_passed, task_run}
 use Rattle.taskfile.specs.Examples.{P}

@@ -1,15 +1,13 @@
--- The expansion of a source plan is a plan of the compiled task, with the same sum.
+-- The expansion of a source plan runs on the compiled task, from any state, with the same sum. That it is a plan: proofs/Forward.antt.
 use Rattle.std.specs.Prelude.{◌≡◌, refl, ℕ, suc, ◌+◌, true, List, [], ◌∷◌, ◌++◌, length, get_or}
 use Rattle.std.proofs.Common.{sym, ap, ◌∙◌, subst₂, arith}
 use Rattle.facts.specs.Lists.{At}
 use Rattle.facts.specs.ListLaws.{look}
 use Rattle.facts.specs.Partial.{holds, apply}
 use Rattle.facts.specs.Run.{Reaches, ends, steps}
-use Rattle.taskfile.specs.Task.{Node, Action, Task, edge_at, Walk, walk_from, walk, cost, action_move, Plan, WfTask}
+use Rattle.taskfile.specs.Task.{Node, Action, Task, edge_at, Walk, walk_from, walk, cost, action_move}
 use Rattle.taskfile.specs.WalkLaws.{edge_wf, walk_node, walk_terminal, walk_induction}
-use Rattle.probefile.specs.Probe.{ProbePlan}
-use Rattle.compilation.specs.Compile.{probe_of}
-use Rattle.plans.specs.Carry.{first_step_of, path_steps, action_list, expand_from, expand}
+use Rattle.plans.specs.Carry.{first_step_of, path_steps, action_list, expand_from}
 use Rattle.plans.specs.PathLaws.{steps_at, steps_end}
 use Rattle.plans.specs.RunLaws.{action_moved, pay}
 use Rattle.plans.specs.ViewLaws.{edge_number, end_number}
@@ -71,8 +69,3 @@ forward_from t (a ∷ list) s sum c o (steps m r) =
     let on = subst₂ (λ (z : List ℕ) (k : ℕ). Reaches (action_move t.actions) t.goal (sum + k) list z c) (sym w.applied.state) (sym w.applied.paid) r in
     rw (look w.element, expand_from)
     (action_runs v (expand_from t.actions list (apply w.x.eff s)) c sum w.applied.applies (forward_from t list (apply w.x.eff s) (sum + cost w.x s) c (next_state v) on))
-
--- the probe list that comes from a source plan is a probe plan with the same sum
-pub forward : (t : Task) → WfTask t → (list : List ℕ) (c : ℕ) → Plan t list c → ProbePlan (probe_of t) (expand t list) c
-unfolding probe_of expand
-forward t wf list c p = forward_from t list t.init 0 c (record { wf = wf; inside = wf.init }) p

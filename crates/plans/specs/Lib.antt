@@ -10,7 +10,7 @@ pub mod Forward
 pub mod Backward
 pub mod Contract
 pub mod LengthLaws
--- Demand 3 over values.
+-- What demand 3 says over values; the theorem is in proofs/Plans.antt.
 pub mod Plans
 -- The document's examples, computed.
 pub mod Examples

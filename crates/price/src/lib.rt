@@ -1,4 +1,6 @@
 // The least from the first node of a diagram on by the numbers of facts, in place: by one pass over its nodes from the last to the first.
+#![tactic(auto)]
+
 ghost use Rattle.std.specs.Prelude.{◌≡◌, true, ◌+◌, ◌≤◌, ◌<◌, map, length, get_or};
 ghost use Rattle.facts.specs.Lists.{up_from};
 ghost use Rattle.facts.specs.Fields.{word_at};

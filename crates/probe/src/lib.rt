@@ -1,4 +1,6 @@
 // Probe files: checked and run. Nothing here knows of tasks or diagrams.
+#![tactic(auto)]
+
 mod step;
 
 ghost use Rattle.std.specs.Prelude.{◌≡◌, ◌+◌, ◌*◌, ◌≤◌, length, take, drop};
@@ -47,7 +49,7 @@ fn run_from_start(file: &[u8], variables: usize, offsets: &[usize], list: &[u16]
     let init = 1 + variables;
     let goal = init + variables;
     let mut state = [0; Probe::MAX_VARIABLES];
-    bytes::copy(&file[init..goal], &mut state[..variables]);
+    state[..variables].copy_from_slice(&file[init..goal]);
     run_list(file, goal, offsets, list, &mut state[..variables])
 }
 

@@ -2,7 +2,8 @@
 use Rattle.std.specs.Prelude.{ℕ, List, map}
 use Rattle.estimate.specs.Number.{exact}
 use Rattle.estimate.specs.FallLaws.{constant_supported, all_supported}
-use Rattle.estimate.specs.RoundBound.{FewRounds, rounds_few}
+use Rattle.estimate.specs.RoundBound.{FewRounds}
+use Rattle.estimate.proofs.RoundBound.{rounds_few}
 use Rattle.probefile.specs.Probe.{Probe}
 use Rattle.probe_estimate.specs.Estimate.{step_achiever}
 

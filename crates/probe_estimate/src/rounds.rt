@@ -1,5 +1,5 @@
 // The estimate of a probe file, in place: one array of ranks, which steps lower in turn.
-ghost use Rattle.std.specs.Prelude.{◌≡◌, ◌<◌, map, length, get_or};
+ghost use Rattle.std.specs.Prelude.{◌≡◌, ◌<◌, ◌≤◌, map, length, get_or};
 ghost use Rattle.facts.specs.Partial.{partial_at};
 ghost use Rattle.facts.specs.Fields.{word_at};
 ghost use Rattle.estimate.specs.Number.{number};
@@ -31,6 +31,28 @@ pub fn settle(file: &[u8], sizes: &[u8], goal: usize, offsets: &[usize], state: 
     requires { Ready file.now sizes.now goal offsets.now }
     ensures { number result ≡ additive sizes.now (map (achiever_at file.now) offsets.now) (partial_at file.now goal) state.now }
 {
+    if sizes.len() <= FEW {
+        return settle_few(file, sizes, goal, offsets, state);
+    }
+    settle_many(file, sizes, goal, offsets, state)
+}
+
+// The same for a file of any number of variables. It has a place of its own on the stack, so that the array does not lie beside the smaller ones.
+#[inline(never)]
+fn settle_many(file: &[u8], sizes: &[u8], goal: usize, offsets: &[usize], state: &[u8]) -> Est
+    requires { Ready file.now sizes.now goal offsets.now }
+    ensures { number result ≡ additive sizes.now (map (achiever_at file.now) offsets.now) (partial_at file.now goal) state.now }
+{
+    let mut ranks = [UNSET; Probe::FACTS];
+    settle_in(file, sizes, goal, offsets, state, &mut ranks)
+}
+
+// The same for a file of few variables, likewise.
+#[inline(never)]
+fn settle_few(file: &[u8], sizes: &[u8], goal: usize, offsets: &[usize], state: &[u8]) -> Est
+    requires { Ready file.now sizes.now goal offsets.now × (length sizes.now ≤ 16) }
+    ensures { number result ≡ additive sizes.now (map (achiever_at file.now) offsets.now) (partial_at file.now goal) state.now }
+{
     if sizes.len() <= FEWEST {
         let mut fewest = [UNSET; FEWEST_FACTS];
         return settle_in(file, sizes, goal, offsets, state, &mut fewest);
@@ -39,15 +61,11 @@ pub fn settle(file: &[u8], sizes: &[u8], goal: usize, offsets: &[usize], state: 
         let mut fewer = [UNSET; FEWER_FACTS];
         return settle_in(file, sizes, goal, offsets, state, &mut fewer);
     }
-    if sizes.len() <= FEW {
-        let mut few = [UNSET; FEW_FACTS];
-        return settle_in(file, sizes, goal, offsets, state, &mut few);
-    }
-    let mut ranks = [UNSET; Probe::FACTS];
-    settle_in(file, sizes, goal, offsets, state, &mut ranks)
+    let mut few = [UNSET; FEW_FACTS];
+    settle_in(file, sizes, goal, offsets, state, &mut few)
 }
 
-// The same in fresh ranks, to which the numbers of the start are lent: offers until no rank falls; then the last numbers are put back into their array, and the goal facts' sum is taken from it.
+// The same in fresh ranks, to which the numbers of the start are lent: offers until no rank falls; then the last numbers are put back into an array, and the goal facts' sum is taken from it. There is one such array, lent and not copied, as the stack has to hold it.
 fn settle_in(
     file: &[u8],
     sizes: &[u8],
@@ -59,13 +77,14 @@ fn settle_in(
     requires { Ready file.now sizes.now goal offsets.now × Roomy sizes.now (length ranks.old) × Fresh ranks.old }
     ensures { number result ≡ additive sizes.now (map (achiever_at file.now) offsets.now) (partial_at file.now goal) state.now }
 {
-    let numbers = estimate::start(state, ranks);
+    offers::start_in(state, ranks);
     loop {
         if offer_steps(file, offsets, sizes.len(), ranks) {
             continue;
         }
-        let last = estimate::put_back(numbers, sizes, ranks);
-        return offers::goal_sum(file, goal, sizes.len(), last);
+        let mut last = [Est::Never; Probe::FACTS];
+        offers::put_back_in(&mut last, sizes, ranks);
+        return offers::goal_sum_in(file, goal, sizes.len(), &last);
     }
 }
 

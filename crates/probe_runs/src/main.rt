@@ -1,46 +1,57 @@
 // Runs the known cases about probe files (document 01) with the code itself; what it writes is compared with the file stdout.
+#![tactic(auto)]
+
 use probefile::Probe;
 
-fn main() {
+fn main(rt: HostRuntime) {
     let file =
         b"\x03\x02\x02\x03\x00\x00\x00\x07\x00\x00\x00\x00\x00\x00\x00\x01\x00\x00\x04\x00\x06\x00\x00\x00\x00\x00\x00\x00\x00\x00\x06\x00\x00\x00\x00\x00\x00\x00\x01\x01\x03\x00\x05\x00\x00\x00\x00\x00\x00\x00\x00\x01\x04\x00\x00\x00\x00\x00\x00\x00\x02\x05\x00\x05\x00\x00\x00\x00\x00\x00\x00\x01\x01\x04\x00\x00\x00\x00\x00\x00\x00\x02\x00\x00\x04\x00\x00\x00\x00\x00\x00\x00\x02\x07\x00\x00\x00\x00\x00\x00\x00\x01\x00\x00\x00\x00";
-    show::checked(probe::check(file));
-    show::checked(probe::check(b""));
-    show::checked(probe::check(b"\x3a"));
-    show::checked(probe::check(b"\x01\x43"));
+    show::checked(&rt, probe::check(file));
+    show::checked(&rt, probe::check(b""));
+    show::checked(&rt, probe::check(b"\x3a"));
+    show::checked(&rt, probe::check(b"\x01\x43"));
     let plan: [u16; 3] = [0, 1, 3];
     let unmet: [u16; 2] = [0, 1];
     let blocked: [u16; 3] = [0, 2, 3];
     let missing: [u16; 2] = [0, 4];
     let longest: [u16; Probe::MAX_LIST] = [9; Probe::MAX_LIST];
     let long: [u16; Probe::MAX_LIST + 1] = [9; Probe::MAX_LIST + 1];
-    show::ran(probe::run(file, &plan));
-    show::ran(probe::run(file, &unmet));
-    show::ran(probe::run(file, &blocked));
-    show::ran(probe::run(file, &missing));
-    show::ran(probe::run(file, &longest));
-    show::ran(probe::run(file, &long));
-    show::ran(probe::run(
-        b"\x03\x02\x02\x03\x00\x00\x00\x08\x00\x00\x00\x00\x00\x00\x00",
-        &plan,
-    ));
-    estimates(file);
+    show::ran(&rt, probe::run(file, &plan));
+    show::ran(&rt, probe::run(file, &unmet));
+    show::ran(&rt, probe::run(file, &blocked));
+    show::ran(&rt, probe::run(file, &missing));
+    show::ran(&rt, probe::run(file, &longest));
+    show::ran(&rt, probe::run(file, &long));
+    show::ran(
+        &rt,
+        probe::run(
+            b"\x03\x02\x02\x03\x00\x00\x00\x08\x00\x00\x00\x00\x00\x00\x00",
+            &plan,
+        ),
+    );
+    estimates(&rt, file);
 }
 
 // Estimates on the file of P: exact ones, and refusals; then never, the largest exact number, and over.
-fn estimates(file: &[u8]) {
-    show::estimated(probe_estimate::estimate(file, b"\x00\x00\x00"));
-    show::estimated(probe_estimate::estimate(file, b"\x01\x00\x00"));
-    show::estimated(probe_estimate::estimate(file, b"\x00\x01\x01"));
-    show::estimated(probe_estimate::estimate(file, b"\x00\x00"));
-    show::estimated(probe_estimate::estimate(file, b"\x00\x02\x03"));
-    show::estimated(probe_estimate::estimate(b"\x3a", b""));
+fn estimates(rt: &impl Print, file: &[u8]) {
+    show::estimated(rt, probe_estimate::estimate(file, b"\x00\x00\x00"));
+    show::estimated(rt, probe_estimate::estimate(file, b"\x01\x00\x00"));
+    show::estimated(rt, probe_estimate::estimate(file, b"\x00\x01\x01"));
+    show::estimated(rt, probe_estimate::estimate(file, b"\x00\x00"));
+    show::estimated(rt, probe_estimate::estimate(file, b"\x00\x02\x03"));
+    show::estimated(rt, probe_estimate::estimate(b"\x3a", b""));
     let no_steps = b"\x01\x02\x00\x01\x00\x00\x00\x00\x00\x00\x00\x01\x00\x00";
-    show::estimated(probe_estimate::estimate(no_steps, b"\x00"));
+    show::estimated(rt, probe_estimate::estimate(no_steps, b"\x00"));
     // Four variables rise from 0 to 9 together: at 65,535 to 1, and then at 3 a time, so that each value costs four times the one before and 3. The goal
     // has one of them at 9, which is 4,294,967,295, and the fifth variable at 1, which costs 1.
     let rising =
         b"\x05\x0a\x0a\x0a\x0a\x02\x00\x00\x00\x00\x00\x11\x00\x00\x00\x00\x00\x00\x00\x09\x01\x0a\x00\x00\x00\x00\x00\x00\x00\x00\x00\x0f\x00\x00\x00\x00\x00\x00\x00\x01\x01\x01\x01\xff\xff\x0f\x00\x00\x00\x00\x00\x00\x00\x01\x01\x01\x01\x0f\x00\x00\x00\x00\x00\x00\x00\x02\x02\x02\x02\x03\x00\x0f\x00\x00\x00\x00\x00\x00\x00\x02\x02\x02\x02\x0f\x00\x00\x00\x00\x00\x00\x00\x03\x03\x03\x03\x03\x00\x0f\x00\x00\x00\x00\x00\x00\x00\x03\x03\x03\x03\x0f\x00\x00\x00\x00\x00\x00\x00\x04\x04\x04\x04\x03\x00\x0f\x00\x00\x00\x00\x00\x00\x00\x04\x04\x04\x04\x0f\x00\x00\x00\x00\x00\x00\x00\x05\x05\x05\x05\x03\x00\x0f\x00\x00\x00\x00\x00\x00\x00\x05\x05\x05\x05\x0f\x00\x00\x00\x00\x00\x00\x00\x06\x06\x06\x06\x03\x00\x0f\x00\x00\x00\x00\x00\x00\x00\x06\x06\x06\x06\x0f\x00\x00\x00\x00\x00\x00\x00\x07\x07\x07\x07\x03\x00\x0f\x00\x00\x00\x00\x00\x00\x00\x07\x07\x07\x07\x0f\x00\x00\x00\x00\x00\x00\x00\x08\x08\x08\x08\x03\x00\x0f\x00\x00\x00\x00\x00\x00\x00\x08\x08\x08\x08\x0f\x00\x00\x00\x00\x00\x00\x00\x09\x09\x09\x09\x03\x00\x00\x00\x00\x00\x00\x00\x00\x00\x10\x00\x00\x00\x00\x00\x00\x00\x01\x01\x00";
-    show::estimated(probe_estimate::estimate(rising, b"\x00\x00\x00\x00\x01"));
-    show::estimated(probe_estimate::estimate(rising, b"\x00\x00\x00\x00\x00"));
+    show::estimated(
+        rt,
+        probe_estimate::estimate(rising, b"\x00\x00\x00\x00\x01"),
+    );
+    show::estimated(
+        rt,
+        probe_estimate::estimate(rising, b"\x00\x00\x00\x00\x00"),
+    );
 }

@@ -13,7 +13,8 @@ use Rattle.taskfile.specs.MoveInPlaceLaws.{own_nodes}
 use Rattle.probefile.specs.Probe.{Step}
 use Rattle.compilation.specs.Compile.{action_steps, edge_count}
 use Rattle.compilation.specs.StepLaws.{total_append, action_length}
-use Rattle.compilation.specs.CompiledLengthLaws.{step_bytes, action_total}
+use Rattle.compilation.specs.CompiledLengthLaws.{step_bytes}
+use Rattle.compilation.proofs.CompiledLengthLaws.{action_total}
 use Rattle.taskfile.specs.PartsInPlace.{nodes_in, action_in, Tests, Stood}
 use Rattle.step_writer.specs.InPlace.{Weighs}
 use Rattle.step_writer.specs.PutLaws.{standing_long}

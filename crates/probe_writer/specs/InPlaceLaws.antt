@@ -197,7 +197,8 @@ module _ (f sizes row : List ℕ) (count : ℕ) where
   pub actions_cut : (a : ℕ) {own : List ℕ} → own ≡ drop (own_from row a) row → a < count
       → Cut (actions_from a) (write_each write_step (action_steps n a (action_in f sizes (get_or row a 0) own))) (actions_from (a + 1))
   actions_cut a g h = record {
-    cut = ap (write_each write_step) (left_next a h) ∙ each_append write_step (action_steps n a (action_in f sizes (get_or row a 0) (drop (own_from row a) row))) (steps_left (a + 1)) ∙ rw g;
+    cut = ap (write_each write_step) (left_next a h) ∙ each_append write_step (action_steps n a (action_in f sizes (get_or row a 0) (drop (own_from row a) row))) (steps_left (a + 1))
+        ∙ ap (λ (o : List ℕ). write_each write_step (action_steps n a (action_in f sizes (get_or row a 0) o)) ++ actions_from (a + 1)) (sym g);
   }
 
   pub actions_none : (a : ℕ) → count - a ≡ 0 → actions_from a ≡ []

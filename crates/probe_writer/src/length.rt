@@ -19,7 +19,7 @@ const EDGE_STEP: usize = 21;
 const START_AND_END: usize = 27;
 
 // Steps, and their bytes.
-#[derive(Drop)]
+#[derive(Clone, Copy)]
 pub struct Extent {
     pub steps: usize,
     pub bytes: usize,

@@ -1,10 +1,12 @@
 // Probe files: what they are, and the one pass that checks one and notes where its steps start. Nothing here knows of tasks or diagrams.
+#![tactic(auto)]
+
 pub mod step_index;
 
 use facts::Refusal;
 
 // A probe file: its limits.
-#[derive(Drop)]
+#[derive(Clone, Copy)]
 pub struct Probe {}
 
 // Every limit of document 01 that bounds a probe file or a probe list; specs/Probe.antt has the same numbers under names of its own.
@@ -31,14 +33,14 @@ impl Probe {
 }
 
 // How many variables and how many steps an accepted file has.
-#[derive(Drop)]
+#[derive(Clone, Copy)]
 pub enum Indexed {
     Steps(usize, usize),
     Refused(Refusal),
 }
 
 // What stands before the steps: how many variables there are, where the head ends, and how many steps there are.
-#[derive(Drop)]
+#[derive(Clone, Copy)]
 pub enum Counted {
     Steps(usize, usize, usize),
     Refused(Refusal),

@@ -1,5 +1,5 @@
 -- Laws of the least cost by the old numbers in place, and of the actions of a task for the heuristic.
-use Rattle.std.specs.Prelude.{◌≡◌, refl, Bool, false, ◌||◌, ℕ, zero, suc, ◌+◌, ◌-◌, ◌*◌, ◌≤◌, ◌<◌, List, [], ◌∷◌, map, length, get_or, drop, set, replicate}
+use Rattle.std.specs.Prelude.{◌≡◌, refl, Bool, false, ◌||◌, ℕ, suc, ◌+◌, ◌-◌, ◌*◌, ◌≤◌, ◌<◌, List, [], ◌∷◌, map, length, get_or, drop, set, replicate}
 use Rattle.std.proofs.Common.{sym, ap, ap₂, subst, ◌∙◌, add-one, arith, le-leb}
 use Rattle.facts.specs.Lists.{up_from, All}
 use Rattle.facts.specs.ListLaws.{all_at}
@@ -11,24 +11,22 @@ use Rattle.estimate.specs.NumberLaws.{sum_never_first, sum_never_second}
 use Rattle.estimate.specs.Additive.{sum_from, Achiever, WfAchiever}
 use Rattle.estimate.specs.Ranks.{rank_number, HasRanks, Fell, after_offer}
 use Rattle.estimate.specs.OfferLaws.{offer_same}
-use Rattle.estimate.specs.FallLaws.{Supported, all_supported}
 use Rattle.estimate.specs.InTurn.{after_own, InTurn}
 use Rattle.estimate.specs.InTurnLaws.{Turning, turning_start, turning_more, turning_end}
-use Rattle.taskfile.specs.Task.{Edge, Action, max_weight, WfAction}
+use Rattle.taskfile.specs.Task.{Action, max_weight, WfAction}
 use Rattle.taskfile.specs.TaskFile.{edge_bytes}
 use Rattle.taskfile.specs.Row.{own_from}
 use Rattle.taskfile.specs.WalkInPlace.{incoming_place, node_count}
-use Rattle.taskfile.specs.PartsInPlace.{edge_in, node_in, nodes_in, action_in, actions_in}
+use Rattle.taskfile.specs.PartsInPlace.{edge_in, node_in, nodes_in, action_in}
 use Rattle.relaxation.specs.Least.{least_of}
-use Rattle.relaxation.specs.LeastLaws.{map_agree, least_taken}
-use Rattle.relaxation.specs.Pass.{by_edge, least_at, least_from, Filled}
+use Rattle.relaxation.specs.LeastLaws.{least_taken}
+use Rattle.relaxation.specs.Pass.{least_at, least_from, Filled}
 use Rattle.relaxation.specs.PassLaws.{edge_inside, Above, pass_agrees}
-use Rattle.relaxation.specs.PassInPlaceLaws.{edge_there, node_there, table_start, table_next, table_end}
+use Rattle.relaxation.specs.PassInPlaceLaws.{node_there, table_start, table_next, table_end}
 use Rattle.relaxation.specs.Estimate.{action_achiever}
 use Rattle.relaxation.specs.EstimatePass.{number_pass, least_cost_by_pass}
 use Rattle.relaxation.specs.LeastCostLaws.{numbers, up_from_below}
-use Rattle.relaxation.specs.EstimateRounds.{by_pass_supported}
-use Rattle.relaxation.specs.EstimateInPlace.{number_for, achiever_in, achievers_in, Priceable, Climbing, Estimable}
+use Rattle.relaxation.specs.EstimateInPlace.{number_for, achiever_in, achievers_in, Priceable, Climbing}
 
 -- a weight is exact
 pub weight_exact : (w : ℕ) → w ≤ max_weight → exact w ≡ capped w
@@ -37,7 +35,7 @@ weight_exact w l = rw (le-leb w largest (omega arith), capped)
 -- ---- an action by the numbers of facts alone
 
 -- the values of a variable
-values_inside : (sizes : List ℕ) (v : ℕ) → All (λ d. d < get_or sizes v 0) (up_from 0 (get_or sizes v 0))
+pub values_inside : (sizes : List ℕ) (v : ℕ) → All (λ d. d < get_or sizes v 0) (up_from 0 (get_or sizes v 0))
 values_inside sizes v = up_from_below 0 (get_or sizes v 0) (get_or sizes v 0) (omega arith)
 
 pub achiever_wf : {sizes : List ℕ} {x : Action} → WfAction sizes x → WfAchiever sizes (action_achiever least_cost_by_pass sizes x)
@@ -79,28 +77,6 @@ module _ {number_of : ℕ → Number} {size : ℕ} where
 
   pub picking_end : {n d : ℕ} {best : Number} → Picking number_of size n d best → n ≡ 0 → best ≡ least_of lesser never (map number_of (up_from 0 size))
   picking_end {n} {d} {best} g none = sym (g.left ∙ ap (λ (m : ℕ). least_of lesser never (best ∷ map number_of (up_from d m))) none)
-
-module _ (f sizes : List ℕ) (of : ℕ → ℕ → Number) (table : List ℕ) (node : ℕ) where
-  -- its variable, and how many values that has
-  abbrev variable : ℕ
-  variable = get_or f node 0
-
-  abbrev size : ℕ
-  size = get_or sizes variable 0
-
-  least_there :
-      least_of lesser never (map (number_for f node of variable table) (up_from 0 size))
-      ≡ least_at (number_pass sizes of) (node_in f sizes node) (λ t. ranked (get_or table t 0))
-  least_there =
-      ap (least_of lesser never) (map_agree (number_for f node of variable table) (by_edge (number_pass sizes of) (node_in f sizes node) (λ t. ranked (get_or table t 0))) (up_from 0 size) (λ k d a.
-      ap (λ (e : Edge). sum (capped e.weight) (sum (of variable d) (ranked (get_or table e.target 0))))
-      (sym (edge_there f sizes node d (all_at (λ d. d < size) (values_inside sizes variable) a)))))
-
-  -- of what was read
-  pub number_in_place : {v n : ℕ} → v ≡ variable → n ≡ get_or sizes v 0
-      → least_of lesser never (map (number_for f node of v table) (up_from 0 n)) ≡ least_at (number_pass sizes of) (node_in f sizes node) (λ t. ranked (get_or table t 0))
-  number_in_place v-is n-is =
-      ap₂ (λ (v n : ℕ). least_of lesser never (map (number_for f node of v table) (up_from 0 n))) v-is (n-is ∙ ap (λ (v : ℕ). get_or sizes v 0) v-is) ∙ least_there
 
 -- the edge for a value whose number is never comes to never
 pub number_never : (f : List ℕ) (node : ℕ) (of : ℕ → ℕ → Number) (v : ℕ) (table : List ℕ) (d : ℕ) → of v d ≡ never → never ≡ number_for f node of v table d
@@ -186,15 +162,3 @@ module _ (f sizes row : List ℕ) (count : ℕ) where
   actions_all a {before} {ranks} {fell} g l =
       let none : count - a ≡ 0 = omega arith in
       turning_end (subst (λ (some : ℕ). Turning (length sizes) all (from a some) before ranks fell) none g)
-
-  -- their costs are made of numbers by sums and the lesser of two
-  pub actions_supported : All (λ x. Supported x.cost) all
-  actions_supported = all_supported (action_achiever least_cost_by_pass sizes) (by_pass_supported sizes) (actions_in f sizes row 0 count)
-
--- all are well-formed
-achievers_from : (f sizes row : List ℕ) (a count : ℕ) → ((q : ℕ) → q < a + count → Priceable f sizes (get_or row q 0) (drop (own_from row q) row)) → All (WfAchiever sizes) (achievers_in f sizes row a count)
-achievers_from f sizes row a zero h = tt
-achievers_from f sizes row a (suc count) h = (achiever_wf (h a (omega arith)).wf, achievers_from f sizes row (suc a) count (λ q l. h q (omega arith)))
-
-pub achievers_wf : {f sizes : List ℕ} {goal count : ℕ} {row : List ℕ} → Estimable f sizes goal count row → All (WfAchiever sizes) (achievers_in f sizes row 0 count)
-achievers_wf {f} {sizes} {goal} {count} {row} e = achievers_from f sizes row 0 count (λ q l. e.action q (omega arith))

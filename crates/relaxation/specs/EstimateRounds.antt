@@ -1,20 +1,19 @@
 -- How many rounds the estimate of a task has: the least cost of an action is made of numbers by sums and the lesser of two, whether over all
 -- valuations or by one pass.
-use Rattle.std.specs.Prelude.{Bool, true, false, ℕ, zero, suc, ◌-◌, List, [], ◌∷◌, map, get_or}
+use Rattle.std.specs.Prelude.{Bool, true, false, ℕ, suc, List, [], ◌∷◌, map}
 use Rattle.estimate.specs.Number.{Number, exact, never, capped, sum, lesser, AtMost}
 use Rattle.estimate.specs.FallLaws.{Falls, unchanged, Supported, falls_sum, falls_plus, falls_lesser, falls_number, all_supported}
-use Rattle.estimate.specs.RoundBound.{FewRounds, rounds_few}
+use Rattle.estimate.specs.RoundBound.{FewRounds}
+use Rattle.estimate.proofs.RoundBound.{rounds_few}
 use Rattle.taskfile.specs.Task.{Node, Action, Task, cost}
 use Rattle.relaxation.specs.Least.{least_of, states, values_sum}
-use Rattle.relaxation.specs.Pass.{edge_for, by_edge, least_froms}
 use Rattle.relaxation.specs.Estimate.{tests, valuations, tested_number, least_cost, action_achiever}
-use Rattle.relaxation.specs.EstimatePass.{number_pass, least_cost_by_pass}
 
 -- ---- the least cost falls by a cause
 
 module _ {new old : ℕ → ℕ → Number} (lower : (v d : ℕ) → AtMost (new v d) (old v d)) where
   -- the least over some things
-  falls_least : {A : Type 0} (f g : A → Number) → ((x : A) → Falls new old (f x) (g x)) → (xs : List A) → Falls new old (least_of lesser never (map f xs)) (least_of lesser never (map g xs))
+  pub falls_least : {A : Type 0} (f g : A → Number) → ((x : A) → Falls new old (f x) (g x)) → (xs : List A) → Falls new old (least_of lesser never (map f xs)) (least_of lesser never (map g xs))
   falls_least f g h [] = unchanged
   falls_least f g h (x ∷ []) = h x
   falls_least f g h (x ∷ y ∷ xs) = falls_lesser (h x) (falls_least f g h (y ∷ xs))
@@ -32,35 +31,14 @@ module _ {new old : ℕ → ℕ → Number} (lower : (v d : ℕ) → AtMost (new
   falls_values nodes v [] = unchanged
   falls_values nodes v (d ∷ s) = falls_sum (falls_tested nodes v d) (falls_values nodes (suc v) s)
 
-  -- what a pass finds from each node on, the first having the number i
-  falls_froms : (sizes : List ℕ) (i : ℕ) (nodes : List Node) (k : ℕ)
-      → Falls new old (get_or (least_froms (number_pass sizes new) i nodes) k (exact 0)) (get_or (least_froms (number_pass sizes old) i nodes) k (exact 0))
-  falls_froms sizes i [] k = unchanged
-  falls_froms sizes i (nd ∷ nodes) zero =
-      falls_least
-      (by_edge (number_pass sizes new) nd (λ k. get_or (least_froms (number_pass sizes new) (suc i) nodes) (k - suc i) (exact 0)))
-      (by_edge (number_pass sizes old) nd (λ k. get_or (least_froms (number_pass sizes old) (suc i) nodes) (k - suc i) (exact 0)))
-      (λ d. falls_plus (capped (edge_for nd d).weight) (falls_sum (falls_number lower nd.var d) (falls_froms sizes (suc i) nodes ((edge_for nd d).target - suc i))))
-      ((number_pass sizes new).values nd.var)
-  falls_froms sizes i (nd ∷ nodes) (suc k) = falls_froms sizes (suc i) nodes k
-
 -- over all valuations
 least_cost_supported : (sizes : List ℕ) (x : Action) → Supported (λ of. least_cost sizes of x)
 unfolding least_cost
 least_cost_supported sizes x =
     record { falls = λ lower. falls_least lower _ _ (λ s. falls_plus (capped (cost x s)) (falls_values lower x.nodes 0 s)) (states (valuations x.nodes 0 sizes)) }
 
--- by one pass
-pub by_pass_supported : (sizes : List ℕ) (x : Action) → Supported (λ of. least_cost_by_pass sizes of x)
-unfolding least_cost_by_pass
-by_pass_supported sizes x = record { falls = λ lower. falls_plus (capped x.incoming) (falls_froms lower sizes 1 x.nodes 0) }
-
 -- ---- the bound
 
 -- "Rounds go on until one changes nothing.": at most as many change something as the task has facts. The code makes turns, of which this says nothing.
 pub estimate_rounds : (t : Task) (s : List ℕ) → FewRounds t.sizes (map (action_achiever least_cost t.sizes) t.actions) s
 estimate_rounds t s = rounds_few t.sizes _ s (all_supported (action_achiever least_cost t.sizes) (least_cost_supported t.sizes) t.actions)
-
--- the same for the rounds of the estimate by passes
-pub by_pass_rounds : (t : Task) (s : List ℕ) → FewRounds t.sizes (map (action_achiever least_cost_by_pass t.sizes) t.actions) s
-by_pass_rounds t s = rounds_few t.sizes _ s (all_supported (action_achiever least_cost_by_pass t.sizes) (by_pass_supported t.sizes) t.actions)

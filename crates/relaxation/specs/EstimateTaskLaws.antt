@@ -1,28 +1,25 @@
 -- Laws of estimates of task files: the ways in which the operation can go, and the estimate in place.
-use Rattle.std.specs.Prelude.{◌≡◌, refl, ℕ, ◌+◌, ◌*◌, ◌<◌, List, map, get_or, take, drop}
-use Rattle.std.proofs.Common.{sym, ap, ap₂, subst, ◌∙◌, arith}
+use Rattle.std.specs.Prelude.{◌≡◌, refl, ℕ, ◌+◌, ◌*◌, ◌<◌, List, get_or, take, drop}
+use Rattle.std.proofs.Common.{sym, ap, subst, ◌∙◌, arith}
 use Rattle.facts.specs.Read.{accepted, refused}
 use Rattle.facts.specs.ReadLaws.{not_made}
-use Rattle.facts.specs.Partial.{Partial, partial_at}
+use Rattle.facts.specs.Partial.{partial_at}
 use Rattle.facts.specs.State.{check_state}
-use Rattle.facts.specs.StateLaws.{state_inside}
 use Rattle.facts.specs.WellFormed.{WfPartial}
-use Rattle.estimate.specs.Number.{Number}
-use Rattle.estimate.specs.Additive.{additive}
-use Rattle.estimate.specs.AdditiveLaws.{estimate_refused, estimate_turned_down, estimate_answers}
+use Rattle.estimate.specs.AdditiveLaws.{estimate_refused, estimate_turned_down}
 use Rattle.estimate.specs.RanksLaws.{roomy}
-use Rattle.taskfile.specs.Task.{Action, Task, WfAction}
+use Rattle.taskfile.specs.Task.{Task, WfAction}
 use Rattle.taskfile.specs.TaskFile.{read_task, check_task}
 use Rattle.taskfile.specs.Row.{own_from}
 use Rattle.taskfile.specs.Blank.{file_of}
 use Rattle.taskfile.specs.Index.{Ready}
-use Rattle.taskfile.specs.TaskReadLaws.{task_wf, task_limits}
-use Rattle.taskfile.specs.AnswerLaws.{there, starts, sizes_there}
-use Rattle.taskfile.specs.PartsInPlaceLaws.{at_some, action_here, actions_stood, actions_in_place}
-use Rattle.relaxation.specs.Estimate.{action_achiever, estimate}
-use Rattle.relaxation.specs.EstimatePass.{least_cost_by_pass}
-use Rattle.relaxation.specs.EstimateLaws.{estimate_by_pass_lem}
-use Rattle.relaxation.specs.EstimateInPlace.{achievers_in, Priceable, Estimable}
+use Rattle.taskfile.proofs.TaskReadLaws.{task_wf, task_limits}
+use Rattle.taskfile.specs.AnswerLaws.{there}
+use Rattle.taskfile.proofs.AnswerLaws.{starts, sizes_there}
+use Rattle.taskfile.specs.PartsInPlaceLaws.{at_some, action_here}
+use Rattle.taskfile.proofs.PartsInPlaceLaws.{actions_stood}
+use Rattle.relaxation.specs.Estimate.{estimate}
+use Rattle.relaxation.specs.EstimateInPlace.{Priceable, Estimable}
 use Rattle.relaxation.specs.EstimateTask.{estimate_task}
 
 -- the file is refused
@@ -34,7 +31,7 @@ module _ (f : List ℕ) {n count : ℕ} {row : List ℕ} (ready : Ready f n coun
   abbrev t : Task
   t = (there f ready).task
 
-  reads : read_task (file_of f) ≡ accepted t
+  pub reads : read_task (file_of f) ≡ accepted t
   reads = (there f ready).reads
 
   -- each action stands in the file
@@ -50,7 +47,7 @@ module _ (f : List ℕ) {n count : ℕ} {row : List ℕ} (ready : Ready f n coun
     abbrev sizes : List ℕ
     sizes = take k (drop 1 f)
 
-    goal_is : partial_at f goal ≡ t.goal
+    pub goal_is : partial_at f goal ≡ t.goal
     goal_is = ap (partial_at f) q ∙ (starts f ready).goal
 
     pub estimable : Estimable f sizes goal count row
@@ -66,20 +63,9 @@ module _ (f : List ℕ) {n count : ℕ} {row : List ℕ} (ready : Ready f n coun
 
     module _ (s : List ℕ) where
       -- the check of the state is that of the task's
-      state_is : check_state t.sizes s ≡ check_state sizes s
+      pub state_is : check_state t.sizes s ≡ check_state sizes s
       state_is = ap (λ (ds : List ℕ). check_state ds s) (sym (sizes_there f ready e))
 
       -- the state is turned down
       pub turned_down : {n p : ℕ} → check_state sizes s ≡ refused n p → estimate_task (file_of f) s ≡ refused n p
       turned_down c = estimate_turned_down (λ t. t.sizes) estimate s reads (state_is ∙ c)
-
-      -- the estimate in place is that of the task
-      pub answered : {r : Number} {u : Unit {0}} → check_state sizes s ≡ accepted u
-          → r ≡ additive sizes (achievers_in f sizes row 0 count) (partial_at f goal) s → accepted r ≡ estimate_task (file_of f) s
-      answered c h =
-          ap accepted
-          (h
-          ∙ ap (λ (ds : List ℕ). additive ds (achievers_in f ds row 0 count) (partial_at f goal) s) (sizes_there f ready e)
-          ∙ ap₂ (λ (xs : List Action) (p : Partial). additive t.sizes (map (action_achiever least_cost_by_pass t.sizes) xs) p s) (actions_in_place f ready) goal_is
-          ∙ sym (estimate_by_pass_lem (task_wf _ reads) s (state_inside t.sizes s (state_is ∙ c))))
-          ∙ sym (estimate_answers (λ t. t.sizes) estimate s reads (state_is ∙ c))

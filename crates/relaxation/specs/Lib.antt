@@ -32,7 +32,6 @@ pub mod RelaxedInPlaceLaws
 pub mod LeastCostLaws
 pub mod EstimateRounds
 pub mod EstimateInPlaceLaws
-pub mod EstimateLaws
 pub mod RelaxedTaskLaws
 pub mod GivenLaws
 pub mod EstimateTaskLaws

@@ -1,26 +1,23 @@
 -- Laws of relaxed costs: the states of the narrowed sets are those of the sets that meet the precondition; so the relaxed cost is found by one pass, is at most the
 -- cost in each such state, and is the cost in one.
 use Rattle.std.specs.Prelude.{◌≡◌, refl, ◌↔◌, true, length, get_or}
-use Rattle.std.proofs.Common.{sym, ap₂, subst, ◌∙◌, arith}
+use Rattle.std.proofs.Common.{sym, ap₂, ◌∙◌, arith}
 use Rattle.std.proofs.Math.Path.{ap}
 use mathlib.Core.List.{List, [], ◌∷◌, ◌++◌, map}
-use Prim.Native.Nat.{ℕ, zero, suc, ◌+◌, ◌%◌, ◌≤◌, ◌<◌, min}
+use Prim.Native.Nat.{ℕ, zero, suc, ◌+◌, ◌%◌, ◌≤◌, ◌<◌}
 use Rattle.facts.specs.Read.{accepted}
 use Rattle.facts.specs.Lists.{Zip, nil, cons, All, At, here, there, up_from}
-use Rattle.facts.specs.ListLaws.{at_none, length_up_from, zip_length}
+use Rattle.facts.specs.ListLaws.{at_none, length_up_from}
 use Rattle.facts.specs.Partial.{Partial, agrees, above, holds}
-use Rattle.facts.specs.PartialLaws.{Has, Below, wf_below}
+use Rattle.facts.specs.PartialLaws.{Has, Below}
 use Rattle.facts.specs.StateLaws.{values_good}
 use Rattle.value.specs.Value.{first_value, value_of, bit_of}
 use Rattle.taskfile.specs.Task.{Action, max_values, cost, WfAction}
-use Rattle.relaxation.specs.Least.{least_of, prefixed}
-use Rattle.relaxation.specs.LeastLaws.{states_some}
+use Rattle.relaxation.specs.Least.{prefixed}
 use Rattle.relaxation.specs.Relaxed.{values_in, RelaxedInside, states_in, states_meeting, relaxed_cost}
 use Rattle.relaxation.specs.RelaxedTask.{allows, check_meets}
-use Rattle.relaxation.specs.RelaxedPass.{relaxed_by_pass}
 use Rattle.relaxation.specs.Narrowing.{kept_set, narrowed_from, narrowed}
-use Rattle.relaxation.specs.RelaxedLaws.{set_some, sets_by_pass}
-use Rattle.relaxation.specs.PassingLaws.{In, further, passing_same, passing_prefixed, in_passing, passing_in, least_most, least_attained}
+use Rattle.relaxation.specs.PassingLaws.{In, further, passing_same, passing_prefixed, in_passing, least_most}
 use Rattle.relaxation.specs.SetLaws.{value_stands}
 use Rattle.relaxation.specs.KeptLaws.{agreeing, kept_values, kept_inside}
 
@@ -72,7 +69,7 @@ no_values : {k : ℕ} {s : List ℕ} → At ([] ∷ []) k s → s ≡ []
 no_values here = refl
 no_values (there a) = absurd (at_none a)
 
-listed_in : (sets : List ℕ) {k : ℕ} {s : List ℕ} → At (states_in sets) k s → InSets sets s
+pub listed_in : (sets : List ℕ) {k : ℕ} {s : List ℕ} → At (states_in sets) k s → InSets sets s
 listed_in [] a = rw (no_values a) nil
 listed_in (set ∷ sets) a =
     let o = behind (values_in set) (states_in sets) a in
@@ -132,42 +129,18 @@ unfolding check_meets
 meets_inside p {sets = sets} h inside =
     inside_from 0 p inside (values_good 17 (λ v set. allows set (value_of p v)) 0 (up_from 0 (length sets)) sets h (sym (length_up_from 0 (length sets))))
 
-sets_some : {sizes sets : List ℕ} → RelaxedInside sizes sets → All (λ d. d ≤ max_values) sizes → All (λ (values : List ℕ). 0 < length values) (map values_in sets)
-sets_some nil few = tt
-sets_some (cons r z) few = (set_some r few.0, sets_some z few.1)
-
 -- ---- the relaxed cost of an action
 
 module _ {sizes : List ℕ} {x : Action} (wf : WfAction sizes x) (small : All (λ d. d ≤ max_values) sizes) (sets : List ℕ) (inside : RelaxedInside sizes sets) where
-  meeting : states_meeting x.pre sets ≡ states_in (narrowed x.pre sets)
-  meeting = narrowed_states x.pre sets (subst (λ (n : ℕ). Below n x.pre) (zip_length inside) (wf_below wf.pre))
-
   -- It is at most the cost in every state of the sets in which the action applies.
   pub relaxed_most : (s : List ℕ) → InSets sets s → holds x.pre s ≡ true → relaxed_cost x sets ≤ cost x s
   unfolding relaxed_cost
   relaxed_most s i h = least_most (cost x) (in_passing (holds x.pre) (in_listed i).1 h).1
 
   module _ {u : Unit {0}} (meets : check_meets x.pre sets ≡ accepted u) where
-    -- There is such a state.
-    pub meets_some : 0 < length (states_meeting x.pre sets)
-    meets_some =
-        subst (λ (l : List (List ℕ)). 0 < length l) (sym meeting) (states_some (map values_in (narrowed x.pre sets)) (sets_some (meets_inside x.pre meets inside) small))
-
     -- It is the cost in one.
     pub record Had : Type 0 where
       pub state : List ℕ
       pub in_sets : InSets sets state
       pub applies : holds x.pre state ≡ true
       pub costs : cost x state ≡ relaxed_cost x sets
-
-    pub relaxed_had : Had
-    unfolding relaxed_cost
-    relaxed_had =
-        let a = least_attained (cost x) (states_meeting x.pre sets) meets_some in
-        let p = passing_in (holds x.pre) (states_in sets) a.1.1 in
-        record { state = a.0; in_sets = listed_in sets p.0.1; applies = p.1; costs = a.2 }
-
-    -- One pass over the diagram finds it, with the sets narrowed.
-    pub relaxed_by_pass_lem : relaxed_cost x sets ≡ relaxed_by_pass x (narrowed x.pre sets)
-    unfolding relaxed_cost
-    relaxed_by_pass_lem = ap (λ (l : List (List ℕ)). least_of min 0 (map (cost x) l)) meeting ∙ sets_by_pass wf small (narrowed x.pre sets) (meets_inside x.pre meets inside)

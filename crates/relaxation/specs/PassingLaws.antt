@@ -105,6 +105,7 @@ module _ {A : Type 0} (test : A → Bool) where
 module _ {A : Type 0} (f : A → ℕ) where
   -- it is at most each
   pub least_most : {xs : List A} {k : ℕ} {x : A} → At xs k x → least_of min 0 (map f xs) ≤ f x
+  least_most {xs = []} a = absurd (at_none a)
   least_most {xs = x ∷ []} here = omega arith
   least_most {xs = x ∷ y ∷ xs} here = omega arith
   least_most {xs = y ∷ []} (there a) = absurd (at_none a)

@@ -1,4 +1,6 @@
 // Answers in words: refusals, with a sentence that explains them, sums, costs and estimates, and what is wrong with a text. Each is written from an index of a buffer on.
+#![tactic(auto)]
+
 ghost use Rattle.std.specs.Prelude.{◌++◌};
 ghost use Rattle.text.specs.Text.{decimal};
 ghost use Rattle.text.specs.Append.{Adds};
@@ -9,7 +11,7 @@ use facts::Refusal;
 use text::append::{append, append_number};
 
 // What an operation looked at when it refused.
-#[derive(Drop)]
+#[derive(Clone, Copy)]
 pub enum Subject {
     File,
     // a state, or the action that it was given with
@@ -23,7 +25,7 @@ pub enum Subject {
 }
 
 // What is wrong with a text of numbers, or with an argument that has to be one.
-#[derive(Drop)]
+#[derive(Clone, Copy)]
 pub enum Fault {
     // an entry that is no number: its line, counted from 1, and its number, counted from 0
     Stray(usize, usize),

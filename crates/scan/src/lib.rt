@@ -1,4 +1,6 @@
 // Numbers of a text: found one by one, each with a bound and the place of what is wrong.
+#![tactic(auto)]
+
 pub mod place;
 pub mod read;
 

@@ -20,7 +20,8 @@ use Rattle.taskfile.specs.Blank.{file_of}
 use Rattle.taskfile.specs.BlankLaws.{file_bytes}
 use Rattle.taskfile.specs.Index.{Ready}
 use Rattle.taskfile.specs.WalkInPlace.{move_at, run_list}
-use Rattle.taskfile.specs.AnswerLaws.{there, starts, sum_is}
+use Rattle.taskfile.specs.AnswerLaws.{there}
+use Rattle.taskfile.proofs.AnswerLaws.{starts, sum_is}
 use Rattle.carry.specs.CarryFile.{answer_in, buffer_in}
 use Rattle.carry.specs.SameSumLaws.{fits_inv}
 use Rattle.carry.specs.LongList.{sum_of_run}

@@ -6,14 +6,16 @@ use Rattle.facts.specs.Lists.{All, At}
 use Rattle.facts.specs.Bytes.{Bytes}
 use Rattle.facts.specs.State.{Inside}
 use Rattle.facts.specs.Run.{attempt, Reaches, ends, steps}
-use Rattle.taskfile.specs.Task.{Action, Task, max_cost, max_list, walk, cost, action_move, Plan}
+use Rattle.taskfile.specs.Task.{Action, Task, max_cost, max_list, walk, action_move, Plan}
 use Rattle.taskfile.specs.TaskFile.{read_task}
-use Rattle.taskfile.specs.TaskReadLaws.{task_wf, task_limits}
-use Rattle.taskfile.specs.TaskLaws.{move_at_lem, move_known, action_kept}
+use Rattle.taskfile.proofs.TaskReadLaws.{task_wf, task_limits}
+use Rattle.taskfile.specs.TaskLaws.{move_at_lem, move_known}
+use Rattle.taskfile.proofs.TaskLaws.{action_kept}
 use Rattle.taskfile.specs.Blank.{file_of}
 use Rattle.taskfile.specs.InPlace.{Located}
 use Rattle.taskfile.specs.WalkInPlace.{move_at}
-use Rattle.taskfile.specs.MoveInPlaceLaws.{move_same, move_inside}
+use Rattle.taskfile.specs.MoveInPlaceLaws.{move_same}
+use Rattle.taskfile.proofs.MoveInPlaceLaws.{move_inside}
 use Rattle.line_writer.specs.Lines.{entries_from, line_text, last_text}
 use Rattle.line_writer.specs.EntryLaws.{text_long}
 use Rattle.sheet.specs.Sheet.{costs_from, costs, entries, sheet_text}

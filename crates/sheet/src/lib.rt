@@ -1,4 +1,6 @@
 // The sheet of a plan: a line for each action and one for the sum, in a lent buffer. Document 02, W12.
+#![tactic(auto)]
+
 mod run;
 
 ghost use Rattle.std.specs.Prelude.{◌≡◌, ◌≤◌, ◌++◌, length};
@@ -23,7 +25,7 @@ use taskfile::{Counted, Task};
 pub const MAX_SHEET: usize = LINE * (Task::MAX_LIST + 1);
 
 // How many bytes the sheet has, and the plan's sum.
-#[derive(Drop)]
+#[derive(Clone, Copy)]
 pub enum Sheeted {
     Length(usize, u32),
     Refused(Refusal),

@@ -39,7 +39,9 @@ pub fn put_bytes(out: &mut [u8], bytes: &[u8]) -> usize
     requires { length bytes.now ≤ length out.old }
     ensures { Wrote bytes.now out.old out.new result }
 {
-    bytes::copy(bytes, out)
+    let n = bytes.len();
+    out[..n].copy_from_slice(bytes);
+    n
 }
 
 // The map with one bit.

@@ -7,7 +7,7 @@ use Rattle.taskfile.specs.Task.{Edge, Task, max_weight}
 use Rattle.compilation.specs.Compile.{flat}
 use Rattle.compilation.specs.CompiledLaws.{AcceptedTask}
 use Rattle.compilation.specs.StepLaws.{all_append, map_from_all, flat_all}
-use Rattle.words.specs.LengthLaws.{two, number_small, few_nodes, variable_small, value_small, weight_small}
+use Rattle.words.proofs.LengthLaws.{two, number_small, few_nodes, variable_small, value_small, weight_small}
 use Rattle.steps.specs.Steps.{node, end, Named, node_names, action_names, names_of, name_text}
 
 -- its name in words is short, and its cost has two bytes

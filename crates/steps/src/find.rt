@@ -11,7 +11,7 @@ use facts::{Checked, Refusal};
 use walk::{diagram_at, edge_for, own_nodes};
 
 // What a step is: the start of an action, its node i passed with the value d of variable v, or its end.
-#[derive(Drop)]
+#[derive(Clone, Copy)]
 pub enum Name {
     Start(usize),
     Node(usize, usize, u8, u8),
@@ -19,7 +19,7 @@ pub enum Name {
 }
 
 // A step and what it costs; or how far past the last step the number lies.
-#[derive(Drop)]
+#[derive(Clone, Copy)]
 pub enum Sought {
     Found(Name, u32),
     Past(usize),

@@ -1,4 +1,6 @@
 // Task files: checked, costed and run.
+#![tactic(auto)]
+
 ghost use Rattle.std.specs.Prelude.{◌≡◌};
 ghost use Rattle.facts.specs.Answers.{checked_answer};
 ghost use Rattle.taskfile.specs.TaskFile.{check_task, cost_task, run_task};
@@ -87,6 +89,6 @@ fn run_in(file: &[u8], variables: usize, actions: usize, row: &[usize], list: &[
     let init = 1 + variables;
     let goal = init + variables;
     let mut state = [0; Task::MAX_VARIABLES];
-    bytes::copy(&file[init..goal], &mut state[..variables]);
+    state[..variables].copy_from_slice(&file[init..goal]);
     run_list(file, goal, actions, row, list, &mut state[..variables])
 }

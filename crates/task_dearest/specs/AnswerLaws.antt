@@ -11,7 +11,7 @@ use Rattle.taskfile.specs.TaskFile.{read_task}
 use Rattle.carry.specs.CarryFile.{answer_in, buffer_in}
 use Rattle.carry.specs.Untouched.{Untouched, refusals_write_nothing}
 use Rattle.dearest.specs.Dearest.{dearest_of}
-use Rattle.dearest.specs.FileLaws.{dearest_given}
+use Rattle.dearest.proofs.FileLaws.{dearest_given}
 
 module _ (f : List ℕ) (a : ℕ) where
   -- A refusal changes no byte of the buffer.

@@ -20,7 +20,8 @@ pub fn greatest_at(file: &[u8], sizes: &[u8], node: usize, table: &[u32]) -> u32
     let mut most: u32 = 0;
     for d in 0..size {
         let cost = cost_by(file, node, size, d, table);
-        if most < cost {
+        let more = most < cost;
+        if more {
             most = cost;
         }
     }

@@ -1,4 +1,6 @@
 // The dearest state of an action: the greatest cost over all states, and the first state that has it. Document 02, W11.
+#![tactic(auto)]
+
 mod edge;
 mod state;
 

@@ -12,7 +12,7 @@ use taskfile::Task;
 const UNPASSED: u8 = 0;
 
 // A turn of the walk: the value of a variable, and the number to go on from.
-#[derive(Drop)]
+#[derive(Clone, Copy)]
 pub struct Turn {
     pub value: u8,
     pub next: usize,

@@ -1,4 +1,6 @@
 // The additive estimate of a task file.
+#![tactic(auto)]
+
 mod rounds;
 
 ghost use Rattle.std.specs.Prelude.{◌≡◌};

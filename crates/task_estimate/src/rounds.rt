@@ -66,7 +66,7 @@ fn settle_more(
     settle_in(file, sizes, goal, count, row, state, &mut ranks)
 }
 
-// The same in fresh ranks, to which the numbers of the start are lent: offers until no rank falls; then the last numbers are put back into their array, and the goal facts' sum is taken from it.
+// The same in fresh ranks, to which the numbers of the start are lent: offers until no rank falls; then the last numbers are put back into an array, and the goal facts' sum is taken from it. There is one such array, lent and not copied, as the stack has to hold it.
 fn settle_in(
     file: &[u8],
     sizes: &[u8],
@@ -79,13 +79,14 @@ fn settle_in(
     requires { Estimable file.now sizes.now goal count row.now × Roomy sizes.now (length ranks.old) × Fresh ranks.old }
     ensures { number result ≡ additive sizes.now (achievers_in file.now sizes.now row.now 0 count) (partial_at file.now goal) state.now }
 {
-    let numbers = estimate::start(state, ranks);
+    offers::start_in(state, ranks);
     loop {
         if offer_actions(file, sizes, count, row, ranks) {
             continue;
         }
-        let last = estimate::put_back(numbers, sizes, ranks);
-        return offers::goal_sum(file, goal, sizes.len(), last);
+        let mut last = [Est::Never; Probe::FACTS];
+        offers::put_back_in(&mut last, sizes, ranks);
+        return offers::goal_sum_in(file, goal, sizes.len(), &last);
     }
 }
 

@@ -1,4 +1,6 @@
 // Relaxed costs of task files.
+#![tactic(auto)]
+
 mod relaxed;
 
 ghost use Rattle.std.specs.Prelude.{◌≡◌};

@@ -1,7 +1,9 @@
 // Runs the known cases about tasks (document 01) with the code itself; what it writes is compared with the file stdout.
+#![tactic(auto)]
+
 use taskfile::{Costed, Tallied, Task};
 
-fn main() {
+fn main(rt: HostRuntime) {
     let p =
         b"\x01\x02\x00\x01\x00\x00\x00\x00\x00\x00\x00\x01\x01\x00\x00\x00\x00\x00\x00\x00\x00\x01\x00\x00\x00\x00\x00\x00\x00\x01\x03\x00\x01\x00\x02\x05\x00\x02\x00\x00";
     // P with another node count, at byte 32
@@ -9,123 +11,129 @@ fn main() {
         b"\x01\x02\x00\x01\x00\x00\x00\x00\x00\x00\x00\x01\x01\x00\x00\x00\x00\x00\x00\x00\x00\x01\x00\x00\x00\x00\x00\x00\x00\x01\x03\x00\x40\x00\x02\x05\x00\x02\x00\x00";
     let nodes65 =
         b"\x01\x02\x00\x01\x00\x00\x00\x00\x00\x00\x00\x01\x01\x00\x00\x00\x00\x00\x00\x00\x00\x01\x00\x00\x00\x00\x00\x00\x00\x01\x03\x00\x41\x00\x02\x05\x00\x02\x00\x00";
-    show::checked(task::check(p));
-    show::checked(task::check(b"\x01"));
-    show::checked(task::check(b"\x18"));
-    show::checked(task::check(b"\x19"));
-    show::checked(task::check(b"\x01\x08"));
-    show::checked(task::check(b"\x01\x09"));
-    show::checked(task::check(nodes64));
-    show::checked(task::check(nodes65));
+    show::checked(&rt, task::check(p));
+    show::checked(&rt, task::check(b"\x01"));
+    show::checked(&rt, task::check(b"\x18"));
+    show::checked(&rt, task::check(b"\x19"));
+    show::checked(&rt, task::check(b"\x01\x08"));
+    show::checked(&rt, task::check(b"\x01\x09"));
+    show::checked(&rt, task::check(nodes64));
+    show::checked(&rt, task::check(nodes65));
     let once: [u16; 1] = [0];
     let none: [u16; 0] = [];
     let missing: [u16; 1] = [1];
     let longest: [u16; Task::MAX_LIST] = [0; Task::MAX_LIST];
     let long: [u16; Task::MAX_LIST + 1] = [0; Task::MAX_LIST + 1];
-    show_run(p, &once);
-    show_run(p, &none);
-    show_run(p, &missing);
-    show_run(p, &longest);
-    show_run(p, &long);
-    show_cost(p, 0, b"\x00");
-    show_cost(p, 0, b"\x01");
-    show_cost(p, 0, b"\x00\x00");
-    show_cost(p, 0, b"\x02");
-    show_cost(p, 1, b"\x00\x00");
+    show_run(&rt, p, &once);
+    show_run(&rt, p, &none);
+    show_run(&rt, p, &missing);
+    show_run(&rt, p, &longest);
+    show_run(&rt, p, &long);
+    show_cost(&rt, p, 0, b"\x00");
+    show_cost(&rt, p, 0, b"\x01");
+    show_cost(&rt, p, 0, b"\x00\x00");
+    show_cost(&rt, p, 0, b"\x02");
+    show_cost(&rt, p, 1, b"\x00\x00");
     // xy² + z + 2, where x and z have 2 values and y has 3
     let xyz =
         b"\x03\x02\x03\x02\x00\x00\x00\x00\x00\x00\x00\x00\x00\x00\x00\x01\x00\x00\x00\x00\x00\x00\x00\x00\x00\x00\x00\x00\x00\x00\x00\x00\x02\x00\x03\x00\x03\x00\x00\x02\x00\x00\x01\x03\x00\x00\x03\x01\x00\x03\x04\x00\x02\x04\x00\x00\x04\x01\x00";
-    show_cost(xyz, 0, b"\x01\x02\x00");
-    show_cost(xyz, 0, b"\x00\x02\x01");
-    show_run(xyz, &once);
-    show_relaxed(xyz, 0, b"\x03\x06\x01");
-    show_relaxed(xyz, 0, b"\x02\x06\x03");
-    show_relaxed(b"\x01", 1, b"");
-    show_relaxed(xyz, 1, b"");
-    show_relaxed(xyz, 0, b"\x00\x06");
-    show_relaxed(xyz, 0, b"\x03\x00\x04");
-    show_relaxed(xyz, 0, b"\x03\x06\x04");
-    relaxed();
-    estimates(p);
-    blank();
+    show_cost(&rt, xyz, 0, b"\x01\x02\x00");
+    show_cost(&rt, xyz, 0, b"\x00\x02\x01");
+    show_run(&rt, xyz, &once);
+    show_relaxed(&rt, xyz, 0, b"\x03\x06\x01");
+    show_relaxed(&rt, xyz, 0, b"\x02\x06\x03");
+    show_relaxed(&rt, b"\x01", 1, b"");
+    show_relaxed(&rt, xyz, 1, b"");
+    show_relaxed(&rt, xyz, 0, b"\x00\x06");
+    show_relaxed(&rt, xyz, 0, b"\x03\x00\x04");
+    show_relaxed(&rt, xyz, 0, b"\x03\x06\x04");
+    relaxed(&rt);
+    estimates(&rt, p);
+    blank(&rt);
 }
 
 // The blank task, which is an empty file (document 02, W1): the empty list is its one plan, there is no action, and both states are estimated at 0. A zero byte is no task.
-fn blank() {
+fn blank(rt: &impl Print) {
     let once: [u16; 1] = [0];
     let none: [u16; 0] = [];
-    show::checked(task::check(b""));
-    show_run(b"", &none);
-    show_run(b"", &once);
-    show_cost(b"", 0, b"\x00");
-    show_relaxed(b"", 0, b"\x01");
-    show::estimated(task_estimate::estimate(b"", b"\x00"));
-    show::estimated(task_estimate::estimate(b"", b"\x01"));
-    show::checked(task::check(b"\x00"));
+    show::checked(rt, task::check(b""));
+    show_run(rt, b"", &none);
+    show_run(rt, b"", &once);
+    show_cost(rt, b"", 0, b"\x00");
+    show_relaxed(rt, b"", 0, b"\x01");
+    show::estimated(rt, task_estimate::estimate(b"", b"\x00"));
+    show::estimated(rt, task_estimate::estimate(b"", b"\x01"));
+    show::checked(rt, task::check(b"\x00"));
 }
 
 // Relaxed costs where the precondition counts: xy² + z + 2 with x = 1 and z = 1, and an action without nodes at 7 that needs the same.
-fn relaxed() {
+fn relaxed(rt: &impl Print) {
     let guarded =
         b"\x03\x02\x03\x02\x00\x00\x00\x00\x00\x00\x00\x00\x00\x00\x00\x02\x05\x00\x00\x00\x00\x00\x00\x00\x01\x01\x01\x00\x00\x00\x00\x00\x00\x00\x00\x02\x00\x03\x00\x03\x00\x00\x02\x00\x00\x01\x03\x00\x00\x03\x01\x00\x03\x04\x00\x02\x04\x00\x00\x04\x01\x00\x05\x00\x00\x00\x00\x00\x00\x00\x01\x01\x01\x00\x00\x00\x00\x00\x00\x00\x00\x07\x00\x00";
-    show_relaxed(guarded, 0, b"\x03\x06\x03");
-    show_relaxed(guarded, 1, b"\x03\x06\x03");
-    show_relaxed(guarded, 0, b"\x01\x06\x01");
-    show_relaxed(guarded, 1, b"\x03\x06\x01");
-    show_relaxed(guarded, 0, b"\x01\x06\x00");
+    show_relaxed(rt, guarded, 0, b"\x03\x06\x03");
+    show_relaxed(rt, guarded, 1, b"\x03\x06\x03");
+    show_relaxed(rt, guarded, 0, b"\x01\x06\x01");
+    show_relaxed(rt, guarded, 1, b"\x03\x06\x01");
+    show_relaxed(rt, guarded, 0, b"\x01\x06\x00");
 }
 
 // Estimates: A=1 at 2-2B and B=1 at 1, then without the second action, then for B=1 without it; P, with refusals; the largest exact number, and over.
-fn estimates(p: &[u8]) {
+fn estimates(rt: &impl Print, p: &[u8]) {
     let both =
         b"\x02\x02\x02\x00\x00\x01\x00\x00\x00\x00\x00\x00\x00\x01\x02\x00\x00\x00\x00\x00\x00\x00\x00\x01\x00\x00\x00\x00\x00\x00\x00\x01\x00\x00\x01\x01\x02\x02\x00\x02\x00\x00\x00\x00\x00\x00\x00\x00\x00\x00\x02\x00\x00\x00\x00\x00\x00\x00\x01\x01\x00\x00";
     let first =
         b"\x02\x02\x02\x00\x00\x01\x00\x00\x00\x00\x00\x00\x00\x01\x01\x00\x00\x00\x00\x00\x00\x00\x00\x01\x00\x00\x00\x00\x00\x00\x00\x01\x00\x00\x01\x01\x02\x02\x00\x02\x00\x00";
     let unreached =
         b"\x02\x02\x02\x00\x00\x02\x00\x00\x00\x00\x00\x00\x00\x01\x01\x00\x00\x00\x00\x00\x00\x00\x00\x01\x00\x00\x00\x00\x00\x00\x00\x01\x00\x00\x01\x01\x02\x02\x00\x02\x00\x00";
-    show::estimated(task_estimate::estimate(both, b"\x00\x00"));
-    show::estimated(task_estimate::estimate(first, b"\x00\x00"));
-    show::estimated(task_estimate::estimate(unreached, b"\x00\x00"));
-    show::estimated(task_estimate::estimate(both, b"\x00\x01"));
-    show::estimated(task_estimate::estimate(p, b"\x00"));
-    show::estimated(task_estimate::estimate(b"\x01", b""));
-    show::estimated(task_estimate::estimate(p, b"\x00\x00"));
-    show::estimated(task_estimate::estimate(p, b"\x02"));
+    show::estimated(rt, task_estimate::estimate(both, b"\x00\x00"));
+    show::estimated(rt, task_estimate::estimate(first, b"\x00\x00"));
+    show::estimated(rt, task_estimate::estimate(unreached, b"\x00\x00"));
+    show::estimated(rt, task_estimate::estimate(both, b"\x00\x01"));
+    show::estimated(rt, task_estimate::estimate(p, b"\x00"));
+    show::estimated(rt, task_estimate::estimate(b"\x01", b""));
+    show::estimated(rt, task_estimate::estimate(p, b"\x00\x00"));
+    show::estimated(rt, task_estimate::estimate(p, b"\x02"));
     // Sixteen variables rise from 0 to 5 together: at 65,535 to 1, and then at 15 a time, so that each value costs sixteen times the one before and 15. The
     // goal has one of them at 5, which is 4,294,967,295, and the last variable at 1, which costs 1 where that one is at 0.
     let rising =
         b"\x11\x06\x06\x06\x06\x06\x06\x06\x06\x06\x06\x06\x06\x06\x06\x06\x06\x02\x00\x00\x00\x00\x00\x00\x00\x00\x00\x00\x00\x00\x00\x00\x00\x00\x00\x01\x00\x01\x00\x00\x00\x00\x00\x05\x01\x06\x00\x00\x00\x00\x00\x00\x00\x00\xff\xff\x00\x00\x00\x00\x00\x00\x01\x01\x01\x01\x01\x01\x01\x01\x01\x01\x01\x01\x01\x01\x01\x01\xff\xff\x00\xff\xff\x00\x00\x00\x00\x00\x00\x01\x01\x01\x01\x01\x01\x01\x01\x01\x01\x01\x01\x01\x01\x01\x01\xff\xff\x00\x00\x00\x00\x00\x00\x02\x02\x02\x02\x02\x02\x02\x02\x02\x02\x02\x02\x02\x02\x02\x02\x0f\x00\x00\xff\xff\x00\x00\x00\x00\x00\x00\x02\x02\x02\x02\x02\x02\x02\x02\x02\x02\x02\x02\x02\x02\x02\x02\xff\xff\x00\x00\x00\x00\x00\x00\x03\x03\x03\x03\x03\x03\x03\x03\x03\x03\x03\x03\x03\x03\x03\x03\x0f\x00\x00\xff\xff\x00\x00\x00\x00\x00\x00\x03\x03\x03\x03\x03\x03\x03\x03\x03\x03\x03\x03\x03\x03\x03\x03\xff\xff\x00\x00\x00\x00\x00\x00\x04\x04\x04\x04\x04\x04\x04\x04\x04\x04\x04\x04\x04\x04\x04\x04\x0f\x00\x00\xff\xff\x00\x00\x00\x00\x00\x00\x04\x04\x04\x04\x04\x04\x04\x04\x04\x04\x04\x04\x04\x04\x04\x04\xff\xff\x00\x00\x00\x00\x00\x00\x05\x05\x05\x05\x05\x05\x05\x05\x05\x05\x05\x05\x05\x05\x05\x05\x0f\x00\x00\x00\x00\x00\x00\x00\x00\x00\x00\x00\x00\x01\x00\x00\x00\x00\x00\x01\x00\x00\x01\x00\x02\x01\x00\x02\x00\x00\x02\x00\x00\x02\x00\x00\x02\x00\x00\x02\x00\x00";
-    show::estimated(task_estimate::estimate(
-        rising,
-        b"\x00\x00\x00\x00\x00\x00\x00\x00\x00\x00\x00\x00\x00\x00\x00\x00\x01",
-    ));
-    show::estimated(task_estimate::estimate(
-        rising,
-        b"\x00\x00\x00\x00\x00\x00\x00\x00\x00\x00\x00\x00\x00\x00\x00\x00\x00",
-    ));
+    show::estimated(
+        rt,
+        task_estimate::estimate(
+            rising,
+            b"\x00\x00\x00\x00\x00\x00\x00\x00\x00\x00\x00\x00\x00\x00\x00\x00\x01",
+        ),
+    );
+    show::estimated(
+        rt,
+        task_estimate::estimate(
+            rising,
+            b"\x00\x00\x00\x00\x00\x00\x00\x00\x00\x00\x00\x00\x00\x00\x00\x00\x00",
+        ),
+    );
 }
 
-fn show_run(file: &[u8], list: &[u16]) {
-    show_tallied(b"sum", task::run(file, list));
+fn show_run(rt: &impl Print, file: &[u8], list: &[u16]) {
+    show_tallied(rt, b"sum", task::run(file, list));
 }
 
-fn show_cost(file: &[u8], action: usize, state: &[u8]) {
-    show_tallied(b"cost", task::cost(file, action, state));
+fn show_cost(rt: &impl Print, file: &[u8], action: usize, state: &[u8]) {
+    show_tallied(rt, b"cost", task::cost(file, action, state));
 }
 
-fn show_tallied(what: &[u8], answer: Tallied) {
+fn show_tallied(rt: &impl Print, what: &[u8], answer: Tallied) {
     match answer {
         Tallied::Sum(sum, passed) => {
-            show::count(what, sum);
-            show::nodes(passed);
+            show::count(rt, what, sum);
+            show::nodes(rt, passed);
         }
-        Tallied::Refused(why) => show::refusal(why),
+        Tallied::Refused(why) => show::refusal(rt, why),
     }
 }
 
-fn show_relaxed(file: &[u8], action: usize, sets: &[u8]) {
+fn show_relaxed(rt: &impl Print, file: &[u8], action: usize, sets: &[u8]) {
     match task_relaxed::relaxed_cost(file, action, sets) {
-        Costed::Cost(cost) => show::count(b"relaxed", cost),
-        Costed::Refused(why) => show::refusal(why),
+        Costed::Cost(cost) => show::count(rt, b"relaxed", cost),
+        Costed::Refused(why) => show::refusal(rt, why),
     }
 }

@@ -7,10 +7,10 @@ use Rattle.facts.specs.Read.{accepted, refused}
 use Rattle.facts.specs.ReadLaws.{not_refused}
 use Rattle.facts.specs.Bytes.{Bytes, number_at}
 use Rattle.facts.specs.Fields.{read_number, field, read_count, read_value, read_map, read_values, read_partial, read_sizes, read_head}
-use Rattle.taskfile.specs.Task.{Task, max_variables, max_values}
+use Rattle.taskfile.specs.Task.{Task}
 use Rattle.taskfile.specs.TaskFile.{read_bytes, blank, read_task}
 use Rattle.taskfile.specs.Blank.{blank_head, or_else, same_bytes, file_of}
-use Rattle.taskfile.specs.TaskReadLaws.{head_of, task_read, some_action, blank_head_lem}
+use Rattle.taskfile.specs.TaskReadLaws.{some_action}
 
 -- ---- the reader
 
@@ -57,13 +57,6 @@ stands f {t} h = go f (same_bytes f blank_head) refl h
     go f true e h = inr (cc h, λ l. same_bytes_lem f blank_head e)
     go [] false e h = inr (cc h, λ l. absurd (omega (arith, l)))
     go (byte ∷ rest) false e h = inl h
-
--- its head stands there in any case
-pub head_stands : (f : List ℕ) → 1 ≤ length f → {t : Task} → read_task (file_of f) ≡ accepted t → (at : ℕ) × (read_head f max_variables max_values ≡ accepted (head_of t, at))
-head_stands f some {t} h = elim (stands f h) [
-  | inl r ↦ ((task_read f r).at, (task_read f r).head_is)
-  | inr q ↦ (11, ap (λ (f : List ℕ). read_head f max_variables max_values) (q.1 some) ∙ blank_head_lem ∙ ap (λ (t : Task). accepted (head_of t, 11)) q.0)
-]
 
 -- code's bytes stand for a file of bytes
 pub file_bytes : (f : List ℕ) → Bytes f → Bytes (file_of f)

@@ -1,6 +1,6 @@
 -- Laws of moves in place: what an action does by its bytes, and that a run by the offsets of an accepted file is one of the actions that were read.
 use Rattle.std.specs.Prelude.{◌≡◌, ℕ, ◌+◌, ◌-◌, ◌≤◌, ◌<◌, min, true, false, length, take, drop}
-use Rattle.std.proofs.Common.{sym, ap, ◌∙◌, lt_of_not-le, arith, length-drop, drop_of_length-le}
+use Rattle.std.proofs.Common.{sym, ◌∙◌, lt_of_not-le, arith, length-drop, drop_of_length-le}
 use Rattle.std.proofs.Math.Path.{ap₂}
 use Rattle.std.proofs.Math.Decide.{dec_le}
 use mathlib.Core.List.{List, []}
@@ -13,15 +13,13 @@ use Rattle.facts.specs.Partial.{Partial, Alike, holds, apply, partial_at, past_p
 use Rattle.facts.specs.InPlaceLaws.{alike_partial}
 use Rattle.facts.specs.State.{Inside}
 use Rattle.facts.specs.Run.{Move, next, blocked, attempt, run_from}
-use Rattle.facts.specs.RunLaws.{attempt_length, run_missing, run_blocked, run_next, run_unmet, run_met, run_same, list_long, list_fits}
-use Rattle.taskfile.specs.Task.{Action, Task, Walk, max_list, walk, action_move, action_passes, task_sum, task_passed}
+use Rattle.facts.specs.RunLaws.{attempt_length, run_missing, run_blocked, run_next, run_unmet, run_met, list_long, list_fits}
+use Rattle.taskfile.specs.Task.{Action, Task, Walk, max_list, walk}
 use Rattle.taskfile.specs.TaskFile.{read_task}
 use Rattle.taskfile.specs.Row.{own_from}
 use Rattle.taskfile.specs.Blank.{file_of}
 use Rattle.taskfile.specs.InPlace.{Located}
-use Rattle.taskfile.specs.TaskReadLaws.{task_wf}
-use Rattle.taskfile.specs.TaskLaws.{move_at_lem, passes_at_lem, attempt_inside}
-use Rattle.taskfile.specs.WalkInPlace.{walk_past, walk_at, perform_by, move_by, move_at, passes_at, run_list}
+use Rattle.taskfile.specs.WalkInPlace.{walk_past, walk_at, perform_by, move_by, move_at, run_list}
 use Rattle.taskfile.specs.WalkInPlaceLaws.{walk_behind, perform_in_place}
 
 -- ---- what an action in place does
@@ -101,36 +99,15 @@ module _ (f : List ℕ) {t : Task} (r : read_task (file_of f) ≡ accepted t) {r
   abbrev nothing : Action
   nothing = record { pre = record { map = 0; values = [] }; eff = record { map = 0; values = [] }; incoming = 0; nodes = [] }
 
-  at_action : (a : ℕ) → a < count → At t.actions a (get_or t.actions a nothing)
+  pub at_action : (a : ℕ) → a < count → At t.actions a (get_or t.actions a nothing)
   at_action a l = at_get_d t.actions a nothing (omega arith)
 
   -- by a measure of walks, where `move` is by that measure what the actions do that were read
   module _ (measure : Walk → ℕ) (move : ℕ → List ℕ → Move) (does : (a : ℕ) (x : Action) (s : List ℕ) → At t.actions a x → move a s ≡ attempt x.pre x.eff (measure (walk x s)) s) where
-    move_in_place : (a : ℕ) (s : List ℕ) → a < count → Inside t.sizes s → let x = get_or t.actions a nothing in move_by measure f row a s ≡ attempt x.pre x.eff (measure (walk x s)) s
+    pub move_in_place : (a : ℕ) (s : List ℕ) → a < count → Inside t.sizes s → let x = get_or t.actions a nothing in move_by measure f row a s ≡ attempt x.pre x.eff (measure (walk x s)) s
     unfolding move_by
     move_in_place a s l inside = perform_in_place f (loc.lies t r a (get_or t.actions a nothing) (at_action a l)) s inside measure
 
     -- the moves agree in a state of the task
     pub move_same : (a : ℕ) (s : List ℕ) → a < count → Inside t.sizes s → move_by measure f row a s ≡ move a s
     move_same a s l inside = move_in_place a s l inside ∙ sym (does a (get_or t.actions a nothing) s (at_action a l))
-
-    -- and lead to one
-    pub move_inside : (a : ℕ) (s e : List ℕ) (c : ℕ) → a < count → Inside t.sizes s → move_by measure f row a s ≡ next e c → Inside t.sizes e
-    move_inside a s e c l inside h = attempt_inside ((task_wf _ r).actions (at_action a l)) s inside (measure (walk (get_or t.actions a nothing) s)) (sym (move_in_place a s l inside) ∙ h)
-
-    -- so the runs agree
-    run_in_place : (goal : ℕ) (list init : List ℕ) → init ≡ t.init → partial_at f goal ≡ t.goal
-        → run_from (count) (move_by measure f row) (partial_at f goal) 0 0 list init ≡ run_from (length t.actions) move t.goal 0 0 list t.init
-    run_in_place goal list init i g =
-        rw (i, g) (run_same (count) (move_by measure f row) move t.goal (Inside t.sizes) move_same move_inside list t.init 0 0 (task_wf _ r).init)
-        ∙ ap (λ (n : ℕ). run_from n move t.goal 0 0 list t.init) all
-
-  -- a run by the offsets is one of the actions that were read, in its sum and in the nodes passed
-  module _ (goal : ℕ) (list init : List ℕ) (i : init ≡ t.init) (g : partial_at f goal ≡ t.goal) where
-    pub sum_in_place : run_from (count) (move_at f row) (partial_at f goal) 0 0 list init ≡ task_sum t list
-    unfolding task_sum
-    sum_in_place = run_in_place (λ (w : Walk). w.cost) (action_move t.actions) (λ a x s h. move_at_lem t.actions s h) goal list init i g
-
-    pub passed_in_place : run_from (count) (passes_at f row) (partial_at f goal) 0 0 list init ≡ task_passed t list
-    unfolding task_passed
-    passed_in_place = run_in_place (λ (w : Walk). w.passed) (action_passes t.actions) (λ a x s h. passes_at_lem t.actions s h) goal list init i g

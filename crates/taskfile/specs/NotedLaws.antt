@@ -5,9 +5,9 @@ use Rattle.std.proofs.Math.Path.{subst}
 use Rattle.std.proofs.Math.Decide.{dec_le}
 use Rattle.std.proofs.Math.ListN.{get_or-append}
 use borrow.Rule.Slice.PartMut.{put_mid}
-use Rattle.facts.specs.Read.{Read, accepted, refused, ◌>>=◌}
+use Rattle.facts.specs.Read.{Read, accepted, refused}
 use Rattle.facts.specs.ReadLaws.{not_refused, made, value_of_lem}
-use Rattle.facts.specs.Lists.{up_from, At, here}
+use Rattle.facts.specs.Lists.{up_from, At}
 use Rattle.facts.specs.ListLaws.{length_up_from, at_length, at_get_d}
 use Rattle.facts.specs.BytesLaws.{number_one}
 use Rattle.facts.specs.Fields.{each, next_of, value_of, read_count}

@@ -1,26 +1,20 @@
 -- Laws of parts in place: those of an accepted task file are the task's.
-use Rattle.std.specs.Prelude.{◌≡◌, refl, ℕ, zero, suc, ◌+◌, ◌*◌, ◌≤◌, ◌<◌, List, [], ◌∷◌, length, get_or, drop}
-use Rattle.std.proofs.Common.{sym, ap, ap₂, subst, ◌∙◌, arith, get_or-drop}
+use Rattle.std.specs.Prelude.{◌≡◌, refl, ℕ, zero, suc, ◌+◌, ◌*◌, ◌<◌, List, [], ◌∷◌, length, get_or, drop}
+use Rattle.std.proofs.Common.{sym, ap, ap₂, ◌∙◌, arith, get_or-drop}
 use Rattle.facts.specs.Read.{accepted}
 use Rattle.facts.specs.Lists.{At, here, there}
-use Rattle.facts.specs.ListLaws.{total_at}
 use Rattle.facts.specs.BytesLaws.{number_one}
-use Rattle.facts.specs.Partial.{Partial}
 use Rattle.facts.specs.Fields.{word_at}
 use Rattle.facts.specs.InPlaceLaws.{word_is}
-use Rattle.facts.specs.PartialReadLaws.{PartialRead, partial_read}
-use Rattle.facts.specs.HeadLaws.{head_read}
-use Rattle.taskfile.specs.Task.{Edge, Node, Action, Task, max_nodes, max_variables, max_values}
+use Rattle.taskfile.specs.Task.{Edge, Node, Action, Task}
 use Rattle.taskfile.specs.TaskFile.{edge_bytes, read_task}
 use Rattle.taskfile.specs.Row.{own_from}
 use Rattle.taskfile.specs.InPlace.{Lies}
 use Rattle.taskfile.specs.Index.{Ready}
 use Rattle.taskfile.specs.WalkInPlace.{incoming_place, node_count}
-use Rattle.taskfile.specs.PartsInPlace.{edge_in, edges_in, node_in, nodes_in, action_in, actions_in, Stands, Stood}
-use Rattle.taskfile.specs.DiagramReadLaws.{EdgeRead, NodeRead, node_read, node_edge, node_tests}
+use Rattle.taskfile.specs.PartsInPlace.{edge_in, edges_in, node_in, nodes_in, action_in, actions_in}
+use Rattle.taskfile.specs.DiagramReadLaws.{EdgeRead, NodeRead, node_read, node_edge}
 use Rattle.taskfile.specs.WalkInPlaceLaws.{pre_lies, eff_lies, incoming_lies, count_is}
-use Rattle.taskfile.specs.TaskReadLaws.{task_limits}
-use Rattle.taskfile.specs.BlankLaws.{head_stands}
 use Rattle.taskfile.specs.Blank.{file_of}
 use Rattle.taskfile.specs.AnswerLaws.{there as task-there}
 
@@ -70,10 +64,6 @@ at_some (x ∷ xs) (suc k) h = let a = at_some xs k (omega arith) in (a.0, there
 
 -- ---- parts that were read stand where they were read
 
--- A partial state.
-stands : {f sizes : List ℕ} {at e : ℕ} {p : Partial} → PartialRead f sizes at p e → Stands f (length sizes) at
-stands r = record { fits = rw (← r.same) (omega (arith, r.next, r.fits)); below = rw (← r.same) r.wf.map_below }
-
 -- An edge.
 edge_here : (f : List ℕ) {m i at end : ℕ} {e : Edge} → EdgeRead f m i at e end → edge_in f at ≡ e
 edge_here f {at = at} {e = e} r =
@@ -83,7 +73,7 @@ edge_here f {at = at} {e = e} r =
 
 module _ (f : List ℕ) {sizes : List ℕ} {m i at end : ℕ} {nd : Node} (r : NodeRead f sizes m i at nd end) where
   -- The variable of a node.
-  var_here : get_or f at 0 ≡ nd.var
+  pub var_here : get_or f at 0 ≡ nd.var
   var_here = sym (number_one f at (omega (arith, r.var.fits))) ∙ r.var.value
 
   -- A node.
@@ -98,7 +88,7 @@ module _ (f : List ℕ) {sizes : List ℕ} {m i at end : ℕ} {nd : Node} (r : N
 -- An action x and its nodes, at the offsets from index `first` on.
 module _ (f : List ℕ) {sizes : List ℕ} {x : Action} {at first : ℕ} {all : List ℕ} (l : Lies f sizes x at first all) where
   -- The node at each index.
-  node_at : {j : ℕ} {nd : Node} (h : At x.nodes j nd) → NodeRead f sizes (length x.nodes) (suc j) (get_or (drop first all) j 0) nd (l.node j nd h).0
+  pub node_at : {j : ℕ} {nd : Node} (h : At x.nodes j nd) → NodeRead f sizes (length x.nodes) (suc j) (get_or (drop first all) j 0) nd (l.node j nd h).0
   node_at {j} {nd} h = rw (get_or-drop first all j 0) (node_read f sizes (length x.nodes) (suc j) (get_or all (first + j) 0) (l.node j nd h).1)
 
   -- The action.
@@ -113,20 +103,6 @@ module _ (f : List ℕ) {sizes : List ℕ} {x : Action} {at first : ℕ} {all : 
       ap (λ (k : ℕ). node_in f sizes (get_or (drop first all) k 0)) same ∙ node_here f (node_at a)) in
       λ k. record { pre = sym (pre_lies f l).same k; eff = sym (eff_lies f l).same k; incoming = incoming k; nodes = nodes k }
 
-  -- All of its parts.
-  stood : length x.nodes ≤ max_nodes → Stood f sizes at (drop first all)
-  stood few = record {
-    pre = stands (pre_lies f l);
-    eff = stands (eff_lies f l);
-    few = omega (arith, count_is f l);
-    nodes = λ j h. node_tests f (node_at (at_some x.nodes j (omega (arith, count_is f l))).1);
-    tested = record {
-      variable = λ j h.
-          let nd = at_some x.nodes j (omega (arith, count_is f l)) in
-          get_or-drop first all (max_nodes + j) 0 ∙ l.tested j nd.0 nd.1 ∙ sym (var_here f (node_at nd.1));
-    };
-  }
-
 -- ---- the task of an accepted file with this index
 
 module _ (f : List ℕ) {n k : ℕ} {row : List ℕ} (ready : Ready f n k row) where
@@ -136,12 +112,6 @@ module _ (f : List ℕ) {n k : ℕ} {row : List ℕ} (ready : Ready f n k row) w
   pub reads : read_task (file_of f) ≡ accepted t
   reads = (task-there f ready).reads
 
-  -- Each action stands at its offset.
-  pub actions_stood : {sizes : List ℕ} → sizes ≡ t.sizes → (a : ℕ) → a < k → Stood f sizes (get_or row a 0) (drop (own_from row a) row)
-  actions_stood e a h =
-      let x = at_some t.actions a (omega (arith, (task-there f ready).actions)) in
-      rw e (stood f (ready.located.lies t reads a x.0 x.1) (omega (arith, total_at (λ x. length x.nodes) x.1, (task_limits _ reads).nodes)))
-
   -- The actions in place are the task's.
   pub actions_in_place : actions_in f t.sizes row 0 k ≡ t.actions
   actions_in_place =
@@ -149,9 +119,3 @@ module _ (f : List ℕ) {n k : ℕ} {row : List ℕ} (ready : Ready f n k row) w
       ∙ actions_are f t.sizes row 0 t.actions (λ a q x h e.
       let same : q ≡ a = omega arith in
       rw same (action_here f (ready.located.lies t reads a x h)))
-
-  -- The goal stands in the file.
-  pub goal_stands : Stands f (n) (1 + 2 * n)
-  goal_stands =
-      let g = (head_read f max_variables max_values (head_stands f ready.some_byte reads).1).goal in
-      subst (λ (n : ℕ). Stands f n (1 + 2 * n)) (task-there f ready).variables (stands (partial_read f t.sizes (1 + 2 * length t.sizes) g))

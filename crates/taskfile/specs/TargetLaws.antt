@@ -168,7 +168,7 @@ module _ (f sizes : List ℕ) (m from : ℕ) {nodes : List Node} {end : ℕ} (h 
         let none : Node = record { var = 0; edges = [] } in
         let a = at_get_d nodes (t - 1) none (omega (arith, nodes_length f sizes m from h)) in
         let number : 1 + (t - 1) ≡ t = omega (arith, l) in
-        ap (ltb v) (var_at (length sizes) a ∙ sym (var_noted f sizes m from h k a) ∙ sym (row.own_val (t - 1) (omega (arith, g, l))) ∙ ap (λ (k : ℕ). get_or levels k terminal_level) number)
+        ap (ltb v) (var_at (length sizes) a ∙ sym (var_noted f sizes m from h k a) ∙ sym (row.own (t - 1) (omega (arith, g, l))) ∙ ap (λ (k : ℕ). get_or levels k terminal_level) number)
     | no g ↦
         let past = lt_of_not-le g in
         ap (ltb v) (var_past (length sizes) nodes (t - 1) (omega (arith, nodes_length f sizes m from h, past))) ∙ lt-ltb v (length sizes) b

@@ -1,21 +1,17 @@
 -- Laws of tasks: a plan is what a run says it is, states stay inside the domains, and what one action of an accepted file costs at most.
-use Rattle.std.specs.Prelude.{◌≡◌, refl, ◌↔◌, ℕ, ◌≤◌, ◌<◌, Bool, true, false, List, length}
-use Rattle.std.proofs.Common.{sym, ◌∙◌, le_trans, arith}
+use Rattle.std.specs.Prelude.{◌≡◌, refl, ◌↔◌, ℕ, ◌<◌, Bool, true, false, List, length}
+use Rattle.std.proofs.Common.{sym, ◌∙◌}
 use Rattle.std.proofs.Math.Option.{Option, none, some}
 use Rattle.std.proofs.Math.ListN.{get_elem?}
 use Rattle.facts.specs.Read.{accepted}
 use Rattle.facts.specs.Lists.{At}
 use Rattle.facts.specs.ListLaws.{look, found, at_length}
-use Rattle.facts.specs.Bytes.{Bytes}
 use Rattle.facts.specs.Partial.{holds, apply}
 use Rattle.facts.specs.PartialLaws.{apply_inside}
 use Rattle.facts.specs.State.{Inside}
 use Rattle.facts.specs.Run.{Move, next, blocked, attempt}
-use Rattle.facts.specs.RunLaws.{attempt_next, attempt_blocked, attempt_cost, not_blocked, plan_answers}
-use Rattle.taskfile.specs.Task.{Action, Task, max_variables, max_cost, walk, cost, perform, action_move, action_passes, task_sum, Plan, WfAction}
-use Rattle.taskfile.specs.TaskFile.{read_task}
-use Rattle.taskfile.specs.WalkLaws.{passed_most, cost_most}
-use Rattle.taskfile.specs.TaskReadLaws.{task_wf, task_limits, task_weights}
+use Rattle.facts.specs.RunLaws.{attempt_next, attempt_blocked, not_blocked, plan_answers}
+use Rattle.taskfile.specs.Task.{Action, Task, walk, perform, action_move, action_passes, task_sum, Plan, WfAction}
 
 -- ---- plans
 
@@ -51,26 +47,3 @@ module _ {sizes : List ℕ} {x : Action} (wf : WfAction sizes x) (s : List ℕ) 
       go : (b : Bool) → holds x.pre s ≡ b → Inside sizes e
       go true g = let same : apply x.eff s ≡ e = cc (attempt_next x.pre x.eff paid s g) in rw (← same) (apply_inside x.eff sizes s wf.eff.values inside)
       go false g = absurd (not_blocked (sym (attempt_blocked x.pre x.eff paid s g) ∙ h))
-
--- ---- an action x of an accepted file f, in a state s inside the domains
-
-module _ (f : List ℕ) {t : Task} (h : read_task f ≡ accepted t) {a : ℕ} {x : Action} (action : At t.actions a x) (s : List ℕ) (inside : Inside t.sizes s) where
-  -- it passes at most 24 nodes
-  pub accepted_passed : (walk x s).passed ≤ max_variables
-  accepted_passed = le_trans (passed_most ((task_wf f h).actions action) s inside) (task_limits f h).variables
-
-  -- and costs at most 1,638,375
-  pub accepted_cost : Bytes f → cost x s ≤ max_cost
-  accepted_cost bytes = cost_most ((task_wf f h).actions action) s inside (task_weights f h bytes action) (task_limits f h).variables
-
--- ---- what action number a of an accepted file does in a state inside the domains: it leads to another, and costs at most 1,638,375
-
-pub action_kept : (f : List ℕ) {t : Task} → read_task f ≡ accepted t → Bytes f → (a : ℕ) (s e : List ℕ) (c : ℕ) → Inside t.sizes s → action_move t.actions a s ≡ next e c → Inside t.sizes e × (c ≤ max_cost)
-unfolding action_move
-action_kept f {t} h bytes a s e c inside m = go (get_elem? t.actions a) refl m
-  where
-    go : (o : Option Action) → get_elem? t.actions a ≡ o → elim o as (λ o. Move) [ none ↦ blocked | some x ↦ perform x s ] ≡ next e c → Inside t.sizes e × (c ≤ max_cost)
-    go none q m = absurd (not_blocked m)
-    go (some x) q m =
-        let k = found t.actions a q in
-        (attempt_inside ((task_wf f h).actions k) s inside (cost x s) m, omega (arith, attempt_cost x.pre x.eff (cost x s) s m, accepted_cost f h k s inside bytes))

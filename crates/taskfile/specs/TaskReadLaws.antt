@@ -173,10 +173,10 @@ module _ (f : List ℕ) where
     lies : {a : ℕ} {x : Action} → At t.actions a x → (room o end : ℕ) × ActionRead t.sizes room o x end
     lies a = action_lies t.sizes (length t.actions) max_nodes (r.at + 1) r.actions_are a
 
-    bytes_wf : WfTask t
+    pub bytes_wf : WfTask t
     bytes_wf = record { init = head.init; goal = head.goal; actions = λ a. action_wf (lies a).3 }
 
-    bytes_limits : Limits t
+    pub bytes_limits : Limits t
     bytes_limits =
         let n = count_read f 1 max_actions r.at r.count_is in
         record { some_variable = head.some_variable; variables = head.variables; sizes = head.sizes; actions = n.most; nodes = actions.nodes }
@@ -198,21 +198,12 @@ pub blank_head_lem : read_head blank_head max_variables max_values ≡ accepted 
 unfolding number_at read_number field read_count read_value read_map read_values read_partial read_sizes read_head
 blank_head_lem = refl
 
-blank_wf : WfHead max_variables max_values (head_of blank)
-blank_wf = (head_read blank_head max_variables max_values blank_head_lem).wf
-
 -- what every task has that is read of bytes, and the blank one too, every task of a file has
 module _ (P : List ℕ → Task → Type 0) (of-bytes : (f : List ℕ) (t : Task) → read_bytes f ≡ accepted t → P f t) (of_none : P [] blank) where
-  each_task : (f : List ℕ) {t : Task} → read_task f ≡ accepted t → P f t
+  pub each_task : (f : List ℕ) {t : Task} → read_task f ≡ accepted t → P f t
   unfolding read_task
   each_task [] h = subst (P []) (cc h) of_none
   each_task (byte ∷ rest) {t} h = of-bytes (byte ∷ rest) t h
-
-pub task_wf : (f : List ℕ) {t : Task} → read_task f ≡ accepted t → WfTask t
-task_wf = each_task (λ f t. WfTask t) (λ f t h. bytes_wf f h) (record { init = blank_wf.init; goal = blank_wf.goal; actions = λ a. absurd (at_none a) })
-
-pub task_limits : (f : List ℕ) {t : Task} → read_task f ≡ accepted t → Limits t
-task_limits = each_task (λ f t. Limits t) (λ f t h. bytes_limits f h) (record { some_variable = omega arith; variables = omega arith; sizes = blank_wf.sizes; actions = omega arith; nodes = omega arith })
 
 pub task_weights : (f : List ℕ) {t : Task} → read_task f ≡ accepted t → Bytes f → {a : ℕ} {x : Action} → At t.actions a x → Weights x
 task_weights f h bytes {a} {x} = each_task (λ f t. Bytes f → At t.actions a x → Weights x) (λ f t h bytes i. bytes_weights f h bytes i) (λ bytes i. absurd (at_none i)) f h bytes

@@ -11,7 +11,7 @@ use Rattle.facts.specs.Lists.{At, here, there}
 use Rattle.facts.specs.ListLaws.{at_get_d}
 use Rattle.facts.specs.State.{Inside}
 use Rattle.facts.specs.PartialLaws.{inside_at}
-use Rattle.taskfile.specs.Task.{Node, Action, max_variables, max_weight, max_cost, edge_at, Walk, arrived, along, walk_from, walk, cost, level, WfEdge, WfAction, Weights}
+use Rattle.taskfile.specs.Task.{Node, Action, max_weight, edge_at, Walk, arrived, along, walk_from, walk, cost, level, WfEdge, WfAction, Weights}
 
 -- ---- the nodes from number i on
 
@@ -112,6 +112,3 @@ module _ {sizes : List ℕ} {x : Action} (wf : WfAction sizes x) (s : List ℕ) 
   unfolding walk
   cost_passed w =
       omega (arith, w.incoming, walk_induction (λ k. (from k).cost ≤ max_weight * (from k).passed) (rw walk_terminal (omega arith)) (λ j nd h p. rw (walk_node h) (omega (arith, w.edges h (edge_there h)))))
-
-  pub cost_most : Weights x → length sizes ≤ max_variables → cost x s ≤ max_cost
-  cost_most w few = omega (arith, cost_passed w, passed_most)

@@ -1,9 +1,11 @@
 // Task files: what they are, their limits, and what the row of an index has.
+#![tactic(auto)]
+
 use facts::Refusal;
 
 // A task file: its limits, and what the row of its index has, which the caller of the index lends: where each action starts, where its effect and its incoming weight stand, which of all nodes is its first, where each
 // node starts and which variable it tests.
-#[derive(Drop)]
+#[derive(Clone, Copy)]
 pub struct Task {}
 
 // Every limit of document 01 that bounds a task file or a source list; specs/Task.antt has the same numbers under names of its own.
@@ -61,28 +63,28 @@ impl Task {
 }
 
 // Where the next field starts, and how many nodes the diagram before it has.
-#[derive(Drop)]
+#[derive(Clone, Copy)]
 pub enum Drawn {
     Next(usize, usize),
     Refused(Refusal),
 }
 
 // How many variables and how many actions an accepted file has.
-#[derive(Drop)]
+#[derive(Clone, Copy)]
 pub enum Counted {
     Actions(usize, usize),
     Refused(Refusal),
 }
 
 // What an action costs in a relaxed state.
-#[derive(Drop)]
+#[derive(Clone, Copy)]
 pub enum Costed {
     Cost(u32),
     Refused(Refusal),
 }
 
 // What an action costs in a state, or a list of actions in a run, and how many nodes are passed.
-#[derive(Drop)]
+#[derive(Clone, Copy)]
 pub enum Tallied {
     Sum(u32, usize),
     Refused(Refusal),

@@ -33,173 +33,173 @@ pub enum Question {
 }
 
 // `check FILE`: the file is accepted.
-pub fn accepted() {
+pub fn accepted(rt: HostRuntime) {
     let text: &[u8] = b"accepted\n";
-    reply(text, text.len());
+    reply(rt, text, text.len());
 }
 
 // Whether a file is accepted; if not, its refusal is said.
-pub fn is_accepted(answer: Checked, asked: Asked) -> bool {
+pub fn is_accepted(rt: HostRuntime, answer: Checked, asked: Asked) -> bool {
     match answer {
         Checked::Accepted => true,
         Checked::Refused(why) => {
-            refuse(asked, Subject::File, why);
+            refuse(rt, asked, Subject::File, why);
             false
         }
     }
 }
 
 // `compile TASK PROBE`: the probe file of a task.
-pub fn compile(file: &[u8], next: usize, asked: Asked) {
+pub fn compile(rt: HostRuntime, file: &[u8], next: usize, asked: Asked) {
     let mut out = [0; Task::MAX_WRITTEN];
     match compile::compile(file, &mut out) {
         Compiled::Length(length) => {
             let n = within(length, &out);
-            save(next, &out[..n]);
+            save(rt, next, &out[..n]);
         }
-        Compiled::Refused(why) => refuse(asked, Subject::File, why),
+        Compiled::Refused(why) => refuse(rt, asked, Subject::File, why),
     }
 }
 
 // `run`, `follow`, `expand`, `contract`, `sheet`, `steps`: a command on the list that its next argument names.
-pub fn on_list(asked: Asked, file: &[u8], next: usize) {
+pub fn on_list(rt: HostRuntime, asked: Asked, file: &[u8], next: usize) {
     let mut entries = [0; LIST];
-    let given = read_list(next, &mut entries);
+    let given = read_list(rt, next, &mut entries);
     if !given.ok {
-        return failed();
+        return failed(rt);
     }
     let n = given.length;
     let list = &entries[..n];
     let command = asked.command;
     match command {
-        Command::Run => run(file, list, asked),
-        Command::Follow => follow(file, list, asked),
-        Command::Expand => expand(file, list, asked),
-        Command::Contract => contract(file, list, asked),
-        Command::Sheet => sheet(file, list, asked),
-        _ => steps(file, list, asked),
+        Command::Run => run(rt, file, list, asked),
+        Command::Follow => follow(rt, file, list, asked),
+        Command::Expand => expand(rt, file, list, asked),
+        Command::Contract => contract(rt, file, list, asked),
+        Command::Sheet => sheet(rt, file, list, asked),
+        _ => steps(rt, file, list, asked),
     }
     if asked.explain {
-        explain_list(asked, file, list);
+        explain_list(rt, asked, file, list);
     }
 }
 
 // Why the list is no plan.
-fn explain_list(asked: Asked, file: &[u8], list: &[u16]) {
+fn explain_list(rt: HostRuntime, asked: Asked, file: &[u8], list: &[u16]) {
     let command = asked.command;
     match command {
-        Command::Run => failing::on_task(asked, file, list),
-        Command::Follow => failing::on_probe(asked, file, list),
-        Command::Expand => failing::on_task(asked, file, list),
-        Command::Contract => failing::on_compiled(asked, file, list),
-        Command::Sheet => failing::on_task(asked, file, list),
+        Command::Run => failing::on_task(rt, asked, file, list),
+        Command::Follow => failing::on_probe(rt, asked, file, list),
+        Command::Expand => failing::on_task(rt, asked, file, list),
+        Command::Contract => failing::on_compiled(rt, asked, file, list),
+        Command::Sheet => failing::on_task(rt, asked, file, list),
         _ => {}
     }
 }
 
 // The probe list that comes from a plan, and its sum.
-fn expand(file: &[u8], list: &[u16], asked: Asked) {
+fn expand(rt: HostRuntime, file: &[u8], list: &[u16], asked: Asked) {
     let mut out = [0; LIST];
     let answer = expand::expand(file, list, &mut out);
-    carried(answer, &out, Subject::List, asked);
+    carried(rt, answer, &out, Subject::List, asked);
 }
 
 // The plan that a probe list comes from, and its sum.
-fn contract(file: &[u8], list: &[u16], asked: Asked) {
+fn contract(rt: HostRuntime, file: &[u8], list: &[u16], asked: Asked) {
     let mut out = [0; LIST];
     let answer = contract::contract(file, list, &mut out);
-    carried(answer, &out, Subject::Contracted, asked);
+    carried(rt, answer, &out, Subject::Contracted, asked);
 }
 
 // `cost`, `relaxed`, `estimate`: a question about the state that the next argument names.
-pub fn on_state(question: Question, file: &[u8], next: usize, asked: Asked) {
+pub fn on_state(rt: HostRuntime, question: Question, file: &[u8], next: usize, asked: Asked) {
     let mut values = [0; STATE];
-    let given = read_state(next, &mut values);
+    let given = read_state(rt, next, &mut values);
     if !given.ok {
-        return failed();
+        return failed(rt);
     }
     let n = given.length;
     let state = &values[..n];
     match question {
-        Question::Cost(action) => cost(file, action, state, asked),
-        Question::Relaxed(action) => relaxed(file, action, state, asked),
-        Question::TaskEstimate => number(task_estimate::estimate(file, state), asked),
-        Question::ProbeEstimate => number(probe_estimate::estimate(file, state), asked),
+        Question::Cost(action) => cost(rt, file, action, state, asked),
+        Question::Relaxed(action) => relaxed(rt, file, action, state, asked),
+        Question::TaskEstimate => number(rt, task_estimate::estimate(file, state), asked),
+        Question::ProbeEstimate => number(rt, probe_estimate::estimate(file, state), asked),
     }
 }
 
 // The sum of a plan, the nodes that its actions pass, and the steps of its probe list.
-fn run(file: &[u8], list: &[u16], asked: Asked) {
+fn run(rt: HostRuntime, file: &[u8], list: &[u16], asked: Asked) {
     match measure::measure(file, list) {
-        Measured::Plan(sum, passed, steps) => ran(sum, passed, steps),
-        Measured::Refused(why) => refuse(asked, Subject::List, why),
+        Measured::Plan(sum, passed, steps) => ran(rt, sum, passed, steps),
+        Measured::Refused(why) => refuse(rt, asked, Subject::List, why),
     }
 }
 
 // The sum of a probe list.
-fn follow(file: &[u8], list: &[u16], asked: Asked) {
+fn follow(rt: HostRuntime, file: &[u8], list: &[u16], asked: Asked) {
     match probe::run(file, list) {
         Ran::Sum(sum) => {
-            count(b"sum", sum);
+            count(rt, b"sum", sum);
         }
-        Ran::Refused(why) => refuse(asked, Subject::List, why),
+        Ran::Refused(why) => refuse(rt, asked, Subject::List, why),
     }
 }
 
 // `charge SUM`: what a shop bills for a run, by its sum.
-pub fn charge(i: usize) {
-    let sum = read_number(i, b"SUM");
+pub fn charge(rt: HostRuntime, i: usize) {
+    let sum = read_number(rt, i, b"SUM");
     if !sum.ok {
-        return failed();
+        return failed(rt);
     }
-    count(b"cents", charge::charge(sum.value));
+    count(rt, b"cents", charge::charge(sum.value));
 }
 
 // A list that was written into a buffer, and its sum.
-fn carried(answer: Carried, out: &[u16], subject: Subject, asked: Asked) {
+fn carried(rt: HostRuntime, answer: Carried, out: &[u16], subject: Subject, asked: Asked) {
     match answer {
         Carried::List(length, sum) => {
             let n = within16(length, out);
-            listed(&out[..n], sum);
+            listed(rt, &out[..n], sum);
         }
-        Carried::Refused(why) => refuse(asked, subject, why),
+        Carried::Refused(why) => refuse(rt, asked, subject, why),
     }
 }
 
 // What an action costs in a state, and the nodes that it passes.
-fn cost(file: &[u8], action: usize, state: &[u8], asked: Asked) {
+fn cost(rt: HostRuntime, file: &[u8], action: usize, state: &[u8], asked: Asked) {
     match task::cost(file, action, state) {
-        Tallied::Sum(cost, passed) => costed(cost, passed),
-        Tallied::Refused(why) => refuse(asked, Subject::State, why),
+        Tallied::Sum(cost, passed) => costed(rt, cost, passed),
+        Tallied::Refused(why) => refuse(rt, asked, Subject::State, why),
     }
 }
 
 // What an action costs in a relaxed state.
-fn relaxed(file: &[u8], action: usize, sets: &[u8], asked: Asked) {
+fn relaxed(rt: HostRuntime, file: &[u8], action: usize, sets: &[u8], asked: Asked) {
     match task_relaxed::relaxed_cost(file, action, sets) {
         Costed::Cost(cost) => {
-            count(b"cost", cost);
+            count(rt, b"cost", cost);
         }
-        Costed::Refused(why) => refuse(asked, Subject::Sets, why),
+        Costed::Refused(why) => refuse(rt, asked, Subject::Sets, why),
     }
 }
 
 // What an action costs at most over all states, and the first state that costs it.
-pub fn dearest(file: &[u8], action: usize, asked: Asked) {
+pub fn dearest(rt: HostRuntime, file: &[u8], action: usize, asked: Asked) {
     let mut state = [0; Task::MAX_VARIABLES];
     match task_dearest::dearest(file, action, &mut state) {
         Dearest::State(variables, cost) => {
             let n = within(variables, &state);
-            output::dearest(cost, &state[..n]);
+            output::dearest(rt, cost, &state[..n]);
         }
-        Dearest::Refused(why) => refuse(asked, Subject::State, why),
+        Dearest::Refused(why) => refuse(rt, asked, Subject::State, why),
     }
 }
 
 // An estimate.
-fn number(answer: Estimated, asked: Asked) {
+fn number(rt: HostRuntime, answer: Estimated, asked: Asked) {
     match answer {
-        Estimated::Number(e) => estimated(e),
-        Estimated::Refused(why) => refuse(asked, Subject::State, why),
+        Estimated::Number(e) => estimated(rt, e),
+        Estimated::Refused(why) => refuse(rt, asked, Subject::State, why),
     }
 }

@@ -18,26 +18,26 @@ fn length_of(answer: Described) -> usize {
 }
 
 // Of a list of actions, on a task.
-pub fn on_task(asked: Asked, file: &[u8], list: &[u16]) {
+pub fn on_task(rt: HostRuntime, asked: Asked, file: &[u8], list: &[u16]) {
     let mut text = [0; FAILURE_TEXT];
     let n = length_of(failure::task_failure(file, list, &mut text));
-    add(asked, &text, n);
+    add(rt, asked, &text, n);
 }
 
 // Of a list of steps, on a probe file.
-pub fn on_probe(asked: Asked, file: &[u8], list: &[u16]) {
+pub fn on_probe(rt: HostRuntime, asked: Asked, file: &[u8], list: &[u16]) {
     let mut text = [0; FAILURE_TEXT];
     let n = length_of(failure::probe_failure(file, list, &mut text));
-    add(asked, &text, n);
+    add(rt, asked, &text, n);
 }
 
 // Of a list of steps, on the probe file written from a task.
-pub fn on_compiled(asked: Asked, file: &[u8], list: &[u16]) {
+pub fn on_compiled(rt: HostRuntime, asked: Asked, file: &[u8], list: &[u16]) {
     let mut out = [0; Task::MAX_WRITTEN];
     match compile::compile(file, &mut out) {
         Compiled::Length(length) => {
             let n = within(length, &out);
-            on_probe(asked, &out[..n], list);
+            on_probe(rt, asked, &out[..n], list);
         }
         Compiled::Refused(_) => {}
     }

@@ -1,4 +1,6 @@
 // The bench tool: the operations on files that the arguments name, with texts of numbers in and out.
+#![tactic(auto)]
+
 mod commands;
 mod describing;
 mod failing;
@@ -15,97 +17,102 @@ use probefile::Probe;
 // One byte more than the longest file has that is accepted, a probe file.
 const FILE: usize = Probe::MAX_BYTES + 1;
 
-fn main() {
-    let asked = console::asking::read();
+fn main(rt: HostRuntime) {
+    let asked = console::asking::read(rt);
     if !asked.ok {
-        return failed();
+        return failed(rt);
     }
     let command = asked.command;
     match command {
-        Command::Charge => commands::charge(asked.first as usize),
-        _ => with_file(asked),
+        Command::Charge => commands::charge(rt, asked.first as usize),
+        _ => with_file(rt, asked),
     }
 }
 
 // A command on a file, which its first argument names.
-fn with_file(asked: Asked) {
+fn with_file(rt: HostRuntime, asked: Asked) {
     let mut file = [0; FILE];
-    let given = read_file(asked.first as usize, &mut file);
+    let given = read_file(rt, asked.first as usize, &mut file);
     if !given.ok {
-        return failed();
+        return failed(rt);
     }
     let n = given.length;
-    on_file(asked, &file[..n]);
+    on_file(rt, asked, &file[..n]);
 }
 
 // The same on the bytes of that file.
-fn on_file(asked: Asked, file: &[u8]) {
+fn on_file(rt: HostRuntime, asked: Asked, file: &[u8]) {
     if asked.probe {
-        if is_accepted(probe::check(file), asked) {
-            return on_probe(asked, file);
+        if is_accepted(rt, probe::check(file), asked) {
+            return on_probe(rt, asked, file);
         }
         // an empty file is a task's, and no word of that helps with an empty probe file
         if file.len() == 0 {
             return;
         }
-        return other_kind(asked, task::check(file));
+        return other_kind(rt, asked, task::check(file));
     }
-    if is_accepted(task::check(file), asked) {
-        return on_task(asked, file);
+    if is_accepted(rt, task::check(file), asked) {
+        return on_task(rt, asked, file);
     }
-    other_kind(asked, probe::check(file));
+    other_kind(rt, asked, probe::check(file));
 }
 
 // A file that is refused is held against the other kind.
-fn other_kind(asked: Asked, answer: Checked) {
+fn other_kind(rt: HostRuntime, asked: Asked, answer: Checked) {
     let command = asked.command;
     match answer {
-        Checked::Accepted => hint(asked.first as usize, takes_either(command), !asked.probe),
+        Checked::Accepted => hint(
+            rt,
+            asked.first as usize,
+            takes_either(command),
+            !asked.probe,
+        ),
         Checked::Refused(_) => {}
     }
 }
 
 // A command on an accepted probe file.
-fn on_probe(asked: Asked, file: &[u8]) {
+fn on_probe(rt: HostRuntime, asked: Asked, file: &[u8]) {
     let next = asked.first as usize + 1;
     let command = asked.command;
     match command {
-        Command::Check => commands::accepted(),
-        Command::Estimate => on_state(Question::ProbeEstimate, file, next, asked),
-        Command::Show => describing::show_probe(file, asked),
-        _ => on_list(asked, file, next),
+        Command::Check => commands::accepted(rt),
+        Command::Estimate => on_state(rt, Question::ProbeEstimate, file, next, asked),
+        Command::Show => describing::show_probe(rt, file, asked),
+        _ => on_list(rt, asked, file, next),
     }
 }
 
 // A command on an accepted task file.
-fn on_task(asked: Asked, file: &[u8]) {
+fn on_task(rt: HostRuntime, asked: Asked, file: &[u8]) {
     let next = asked.first as usize + 1;
     let command = asked.command;
     match command {
-        Command::Check => commands::accepted(),
-        Command::Compile => commands::compile(file, next, asked),
-        Command::Cost => with_action(asked, file),
-        Command::Relaxed => with_action(asked, file),
-        Command::Dearest => with_action(asked, file),
-        Command::Estimate => on_state(Question::TaskEstimate, file, next, asked),
-        Command::Show => describing::show(file, asked),
-        Command::Draw => describing::draw(file, next, asked),
-        _ => on_list(asked, file, next),
+        Command::Check => commands::accepted(rt),
+        Command::Compile => commands::compile(rt, file, next, asked),
+        Command::Cost => with_action(rt, asked, file),
+        Command::Relaxed => with_action(rt, asked, file),
+        Command::Dearest => with_action(rt, asked, file),
+        Command::Estimate => on_state(rt, Question::TaskEstimate, file, next, asked),
+        Command::Show => describing::show(rt, file, asked),
+        Command::Draw => describing::draw(rt, file, next, asked),
+        _ => on_list(rt, asked, file, next),
     }
 }
 
 // A command on an action, whose number is the second argument.
-fn with_action(asked: Asked, file: &[u8]) {
-    let given = read_number(asked.first as usize + 1, b"ACTION");
+fn with_action(rt: HostRuntime, asked: Asked, file: &[u8]) {
+    let given = read_number(rt, asked.first as usize + 1, b"ACTION");
     if !given.ok {
-        return failed();
+        return failed(rt);
     }
     let action = given.value as usize;
     let next = asked.first as usize + 2;
     let command = asked.command;
     match command {
-        Command::Relaxed => on_state(Question::Relaxed(action), file, next, asked),
-        Command::Dearest => commands::dearest(file, action, asked),
-        _ => on_state(Question::Cost(action), file, next, asked),
+        Command::Relaxed => on_state(rt, Question::Relaxed(action), file, next, asked),
+        Command::Dearest => commands::dearest(rt, file, action, asked),
+        _ => on_state(rt, Question::Cost(action), file, next, asked),
     }
 }

@@ -1,61 +1,72 @@
 // A file that is written: beside its name first, and renamed when it is whole.
-ghost use Rattle.io.specs.Counts.{IsPrefixLen};
+ghost use Rattle.text.specs.Append.{Counts};
 
-use console::output::{done, failed, reply};
-use text::append::{append, within};
+use console::input::{PATH_MAX, argument, is_input, path_of};
+use console::output::{done, fail, failed, reply};
+use std::fs::{File, OpenOptions};
+use std::io::{Error, ErrorKind, Write};
+use std::{fs, io, process};
+use text::append::{append, append_number, within};
+
+// The names that are tried for a new file end in a number of six digits, from LEAST on.
+const LEAST: u32 = 100000;
+
+const NAMES: u32 = 900000;
+
+// The number of the system's error for a name that is taken.
+const EEXIST: i32 = 17;
 
 // Bytes into the file that argument i names; to standard output for `-`, and where there is no such argument.
-pub fn save(i: usize, bytes: &[u8]) {
-    let mut name = io::buffer();
-    let length = os::arg(i, &mut name);
-    if os::errno() == libc::EINVAL {
-        return reply(bytes, bytes.len());
+pub fn save(rt: HostRuntime, i: usize, bytes: &[u8]) {
+    if is_input(rt, i) {
+        return reply(rt, bytes, bytes.len());
     }
-    if check::same(&name[..length], b"-") {
-        return reply(bytes, bytes.len());
+    let mut space = [0; PATH_MAX];
+    let length = argument(rt, i, &mut space);
+    let name = &space[..length];
+    match replace(rt, name, bytes) {
+        Ok(()) => done(rt),
+        Err(why) => {
+            fail(rt, name, why);
+            failed(rt);
+        }
     }
-    if replace(&name[..length], bytes) {
-        return done();
-    }
-    failed();
 }
 
-// Bytes into the file of a name; what is wrong is said.
-fn replace(name: &[u8], bytes: &[u8]) -> bool {
-    if !is_writable(name) {
-        os::fail(name);
-        return false;
-    }
-    let mut space = io::buffer();
+// Bytes into the file of a name, by way of a new file beside it: the first of many names that nobody has, from one of this process's on.
+fn replace(rt: HostRuntime, name: &[u8], bytes: &[u8]) -> io::Result<()> {
+    let path = path_of(name)?;
+    test_writable(rt, path)?;
+    let mut space = [0; PATH_MAX];
     let first = append(&mut space, 0, &name[..folder(name)]);
-    let second = append(&mut space, first, b".jafrelin.XXXXXX");
-    let n = within(second, &space);
-    by_way_of(&mut space[..n], name, bytes)
+    let second = append(&mut space, first, b".jafrelin.");
+    let own = process::id(rt.process()) % NAMES;
+    for i in 0..NAMES {
+        let number = LEAST + (own + i) % NAMES;
+        let third = append_number(&mut space, second, number as u64);
+        let n = within(third, &space);
+        let new = path_of(&space[..n])?;
+        match create(rt, new) {
+            Ok(file) => return finish(rt, file, new, path, bytes),
+            Err(why) if why.kind() == ErrorKind::AlreadyExists => {}
+            Err(why) => return Err(why),
+        }
+    }
+    Err(Error::from_raw_os_error(EEXIST))
 }
 
-// The same by way of a new file, of whose name the end is to be found.
-fn by_way_of(new: &mut [u8], name: &[u8], bytes: &[u8]) -> bool {
-    let fd = make(new);
-    if fd < 0 {
-        os::fail(name);
-        return false;
+// An error, unless a name is free, or that of a file that may be written.
+fn test_writable(rt: HostRuntime, path: &str) -> io::Result<()> {
+    match OpenOptions::new().read(true).write(true).open(&rt, path) {
+        Ok(_) => Ok(()),
+        Err(why) if why.kind() == ErrorKind::NotFound => Ok(()),
+        Err(why) => Err(why),
     }
-    finish(fd, new, name, bytes)
-}
-
-// Whether a name is free, or that of a file that may be written.
-fn is_writable(name: &[u8]) -> bool {
-    let fd = os::open_update(name);
-    if fd < 0 {
-        return os::errno() == libc::ENOENT;
-    }
-    libc::close(fd);
-    true
 }
 
 // How many bytes of a name stand before its last part.
 fn folder(name: &[u8]) -> usize
-    ensures { IsPrefixLen result name.now }
+    ensures { Counts result name.now }
 {
     let mut i = name.len();
     while i > 0 {
@@ -67,25 +78,28 @@ fn folder(name: &[u8]) -> usize
     i
 }
 
-// Makes a file of a name that nobody has, and answers a descriptor or -1. It is made twice, as `create_temp` makes it for its owner alone, and `create` with the mode that any new file gets.
-fn make(name: &mut [u8]) -> i32 {
-    let fd = os::create_temp(name);
-    if fd < 0 {
-        return fd;
-    }
-    libc::close(fd);
-    os::unlink(name);
-    os::create(name)
+// Makes a file of a name that nobody has, with the mode that any new file gets.
+fn create(rt: HostRuntime, path: &str) -> io::Result<File> {
+    OpenOptions::new()
+        .write(true)
+        .create_new(true)
+        .open(&rt, path)
 }
 
 // Writes bytes to a new file and gives it its name; if that fails the new file is removed.
-fn finish(fd: i32, new: &[u8], name: &[u8], bytes: &[u8]) -> bool {
-    let written = io::write_all(fd, bytes);
-    let closed = libc::close(fd);
-    if written && closed == 0 && os::rename(new, name) == 0 {
-        return true;
+fn finish(rt: HostRuntime, file: File, new: &str, path: &str, bytes: &[u8]) -> io::Result<()> {
+    let mut named = put(file, bytes);
+    if named.is_ok() {
+        named = fs::rename(&rt, new, path);
     }
-    os::fail(name);
-    os::unlink(new);
-    false
+    if named.is_err() {
+        let _ = fs::remove_file(&rt, new);
+    }
+    named
+}
+
+// Writes bytes to a new file and closes it, once the system has taken all of them: an error that only closing would tell is told by then.
+fn put(mut file: File, bytes: &[u8]) -> io::Result<()> {
+    file.write_all(bytes)?;
+    file.sync_data()
 }

@@ -17,7 +17,7 @@ use Rattle.probefile.specs.InPlace.{probe_at, Located}
 use Rattle.probefile.specs.IndexLaws.{not_read, accepted_probe, starts}
 use Rattle.compilation.specs.Compile.{probe_of}
 use Rattle.compilation.specs.CompileFile.{compile_file}
-use Rattle.compilation.specs.ProgramLaws.{not_compiled}
+use Rattle.compilation.proofs.ProgramLaws.{not_compiled}
 use Rattle.text.specs.Append.{bytes}
 use Rattle.carry.specs.SameSumLaws.{WrittenFrom}
 use Rattle.steps.specs.Steps.{Named, names_of, check_steps}

@@ -18,14 +18,15 @@ use Rattle.taskfile.specs.TaskFile.{read_task}
 use Rattle.taskfile.specs.PartsInPlaceLaws.{at_some}
 use Rattle.probefile.specs.Probe.{Step, WfStep, max_variables, max_values, max_steps, max_list}
 use Rattle.compilation.specs.Compile.{flat, variables, edge_step, end_step, node_steps, action_steps, steps_of, probe_of}
-use Rattle.compilation.specs.CompiledLaws.{AcceptedTask, task_accepted, compiled_wf}
+use Rattle.compilation.specs.CompiledLaws.{AcceptedTask, task_accepted}
+use Rattle.compilation.proofs.CompiledLaws.{compiled_wf}
 use Rattle.compilation.specs.CompiledLengthLaws.{values_most}
 use Rattle.compilation.specs.StepLaws.{all_append, map_from_all, flat_all}
 use Rattle.text.specs.Append.{bytes}
 use Rattle.text.specs.PrintLaws.{digits_most}
 use Rattle.text.specs.Text.{decimal}
 use Rattle.words.specs.Words.{partial_text}
-use Rattle.words.specs.LengthLaws.{two, five, partial_most_lem, accepted_same}
+use Rattle.words.proofs.LengthLaws.{two, five, partial_most_lem, accepted_same}
 use Rattle.steps.specs.Steps.{Named, names_of, check_steps}
 use Rattle.steps.specs.CostLaws.{same_count}
 use Rattle.steps.specs.LengthLaws.{Brief, brief_names}

@@ -18,7 +18,7 @@ use text::append::{append, append_number};
 use words::parts::{put_numbered, put_partial};
 
 // Where an entry ends in the text, the sum up to it, and whether it applies, so that the trace goes on.
-#[derive(Drop)]
+#[derive(Clone, Copy)]
 pub struct Entry {
     pub end: usize,
     pub sum: u64,

@@ -1,4 +1,6 @@
 // The trace of a probe list on the probe file written from a task file: each step with what it needs and sets, and the first that does not apply; into the caller's buffer.
+#![tactic(auto)]
+
 mod entry;
 mod lines;
 

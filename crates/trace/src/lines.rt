@@ -30,7 +30,7 @@ pub fn put_trace(
     let init = 1 + variables;
     let goal = init + variables;
     let mut state = [0; Probe::MAX_VARIABLES];
-    bytes::copy(&probe[init..goal], &mut state[..variables]);
+    state[..variables].copy_from_slice(&probe[init..goal]);
     put_from(
         out,
         file,

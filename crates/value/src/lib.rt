@@ -1,4 +1,6 @@
 // The value that a partial state in place has for a variable, found by the variable's number.
+#![tactic(auto)]
+
 ghost use Rattle.std.specs.Prelude.{◌≡◌, ◌+◌, ◌≤◌, length};
 ghost use Rattle.facts.specs.Partial.{value_place, standing_at, partial_at};
 ghost use Rattle.value.specs.Value.{value_of};
@@ -8,7 +10,7 @@ use facts::Field;
 use facts::number::read_map;
 
 // The value that a partial state has for a variable, if it has one.
-#[derive(Drop)]
+#[derive(Clone, Copy)]
 pub enum Valued {
     Value(u8),
     Absent,
@@ -47,7 +49,8 @@ fn value_in(file: &[u8], at: usize, map: u64, variable: usize) -> Valued
     if 64 <= variable {
         return Valued::Absent;
     }
-    if (map >> variable) % 2 == 0 {
+    let unset = (map >> variable) % 2 == 0;
+    if unset {
         return Valued::Absent;
     }
     let place = at + value_place(map, variable);

@@ -1,4 +1,9 @@
 // Runs `value_at` at every offset of the bytes on standard input: a line for each, with the values that a partial state there has, as ` 0=1 2=0`.
+#![tactic(auto)]
+
+ghost use Rattle.text.specs.Append.{Counts};
+
+use std::io::Read;
 use text::append::{append_byte, append_number, within};
 use value::{Valued, value_at};
 
@@ -8,25 +13,43 @@ const VARIABLES: usize = 66;
 // More bytes than a line has: 64 values of 7 bytes at most.
 const LINE: usize = 512;
 
-fn main() {
-    let mut input = io::buffer();
-    let length = io::read_full(0, &mut input);
-    show_all(&input[..length]);
+// The most bytes that are read.
+const INPUT: usize = 4096;
+
+fn main(rt: HostRuntime) {
+    let mut input = [0; INPUT];
+    let length = read_full(&mut rt.stdin(), &mut input);
+    show_all(&rt, &input[..length]);
+}
+
+// Fills a buffer from the front, as far as there is input; how many bytes that are. A read that fails ends it.
+fn read_full<R: Read>(input: &mut R, buf: &mut [u8]) -> usize
+    ensures { Counts result buf.new }
+{
+    let mut done: usize = 0;
+    while done < buf.len() {
+        match input.read(&mut buf[done..]) {
+            Ok(0) => break,
+            Ok(n) => done += n,
+            Err(_) => break,
+        }
+    }
+    done
 }
 
 // A line for each offset.
-fn show_all(file: &[u8]) {
+fn show_all(rt: &impl Print, file: &[u8]) {
     for at in 0..=file.len() {
-        show_values(file, at);
+        show_values(rt, file, at);
     }
 }
 
 // The line for an offset.
-fn show_values(file: &[u8], at: usize) {
+fn show_values(rt: &impl Print, file: &[u8], at: usize) {
     let mut line = [0; LINE];
     let n = append_values(&mut line, file, at);
     let most = within(n, &line);
-    io::write_all(1, &line[..most]);
+    let _ = rt.write_all(&line[..most]);
 }
 
 // The values of the partial state at an offset, and a newline; the index past it.

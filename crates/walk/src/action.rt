@@ -13,7 +13,7 @@ use partial::{apply_at, held_at};
 use taskfile::{Tallied, Task};
 
 // What an action answers, and how many nodes its walk passes.
-#[derive(Drop)]
+#[derive(Clone, Copy)]
 pub struct Act {
     pub answer: Applied,
     pub passed: usize,

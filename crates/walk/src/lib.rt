@@ -1,4 +1,6 @@
 // Walks in place: the cost of an action in a state.
+#![tactic(auto)]
+
 pub mod action;
 pub mod count;
 
@@ -16,21 +18,21 @@ use partial::length_at;
 use taskfile::Task;
 
 // A walk: the weights of its edges added up, and the number of nodes that it passes.
-#[derive(Drop)]
+#[derive(Clone, Copy)]
 pub struct Walked {
     pub cost: u32,
     pub passed: usize,
 }
 
 // An edge: the number of the node that it leads to, and what it costs.
-#[derive(Drop)]
+#[derive(Clone, Copy)]
 pub struct Edge {
     pub target: usize,
     pub weight: u32,
 }
 
 // What stands before the nodes of a diagram: the weight of the edge into node 1, and the number of nodes.
-#[derive(Drop)]
+#[derive(Clone, Copy)]
 pub struct Diagram {
     pub incoming: u32,
     pub count: usize,
@@ -56,7 +58,7 @@ pub fn walk_from(file: &[u8], incoming: usize, nodes: &[usize], state: &[u8]) ->
 {
     let diagram = diagram_from(file, incoming);
     let weight = diagram.incoming;
-    let way = way_up_lem(file, nodes, diagram.count, state);
+    let way = way_up(file, nodes, diagram.count, state);
     Walked {
         cost: weight + way.cost,
         passed: way.passed,
@@ -110,7 +112,7 @@ pub fn effect_at(file: &[u8], at: usize) -> usize
 }
 
 // The walk from node 1 up through a diagram with `count` nodes.
-fn way_up_lem(file: &[u8], nodes: &[usize], count: usize, state: &[u8]) -> Walked
+fn way_up(file: &[u8], nodes: &[usize], count: usize, state: &[u8]) -> Walked
     requires { count ≤ max_passed }
     ensures { (result.cost ≡ (way_from file.now nodes.now count state.now 1).cost) × (result.passed ≡ (way_from file.now nodes.now count state.now 1).passed) × (result.cost ≤ max_weight * count) × (result.passed ≤ count) }
 {

@@ -13,7 +13,8 @@ use Rattle.taskfile.specs.Task.{Action, Task}
 use Rattle.taskfile.specs.TaskFile.{read_task, check_task, action_of}
 use Rattle.taskfile.specs.Blank.{file_of}
 use Rattle.taskfile.specs.Index.{Ready}
-use Rattle.taskfile.specs.AnswerLaws.{there, starts, sizes_there}
+use Rattle.taskfile.specs.AnswerLaws.{there}
+use Rattle.taskfile.proofs.AnswerLaws.{starts, sizes_there}
 use Rattle.taskfile.specs.PartsInPlace.{actions_in}
 use Rattle.taskfile.specs.PartsInPlaceLaws.{at_some, action_here, actions_in_place}
 use Rattle.compilation.specs.Compile.{flat}

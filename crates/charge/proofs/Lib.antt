@@ -1,0 +1,3 @@
+-- Laws of the charge, and the figure that rests on them.
+pub mod ChargeLaws
+pub mod Examples

@@ -1,0 +1,3 @@
+-- Laws that follow from those in specs/.
+pub mod DearestLaws
+pub mod FileLaws

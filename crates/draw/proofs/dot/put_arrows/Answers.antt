@@ -1,0 +1,6 @@
+-- `draw::dot::put_arrows` meets its contract: the edge for one value after the other. Assumes nothing.
+use Rattle.words.specs.RowLaws.{row_more}
+use Rattle.draw.proofs.dot.put_arrows.Goals as goal
+
+pub loop-d-preserved : goal.loop-d-preserved
+loop-d-preserved c = row_more c.loop-d.invariant c.loop-d-test.true c.put_edge-end.ensures

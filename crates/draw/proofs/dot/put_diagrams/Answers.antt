@@ -1,0 +1,12 @@
+-- `draw::dot::put_diagrams` meets its contract: one action after the other. Assumes nothing.
+use mathlib.Core.Path.{ap}
+use Rattle.text.specs.AppendLaws.{adds_as}
+use Rattle.words.specs.Dot.{dot_action}
+use Rattle.words.specs.RowLaws.{row_more, action_as}
+use Rattle.draw.proofs.dot.put_diagrams.Goals as goal
+
+pub loop-a-preserved : goal.loop-a-preserved
+loop-a-preserved c =
+    let x = c.args in
+    let a = c.loop-a.a in
+    row_more c.loop-a.invariant c.loop-a-test.true (adds_as (ap (dot_action a) (action_as x.file.now x.sizes.now x.row.now a c.offset_at.ensures c.own_nodes-own.ensures)) c.put_diagram-past.ensures)

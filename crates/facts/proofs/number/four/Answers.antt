@@ -1,0 +1,10 @@
+-- `facts::number::four` meets its contract: a number from its halves. Assumes nothing.
+use Rattle.facts.specs.BytesLaws.{number_halves}
+use borrow.Author.Rules.{rules}
+use native.Mathlib.Omega.{arith}
+use Rattle.facts.proofs.number.four.Goals as goal
+
+pub returns : goal.returns
+returns c =
+    let a = c.args in
+    omega (arith, number_halves 2 2 a.file.now a.at (search rules))

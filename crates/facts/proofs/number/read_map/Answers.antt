@@ -1,0 +1,12 @@
+-- `facts::number::read_map` meets its contract: the file has the 8 bytes, or it ends before. Assumes nothing.
+use mathlib.Core.Path.{sym, ap, ◌∙◌}
+use borrow.Author.Tests.{ltb-true, ltb-false}
+use Rattle.facts.specs.Read.{accepted}
+use Rattle.facts.specs.FieldLaws.{number_ends, number_reads}
+use Rattle.facts.proofs.number.read_map.Goals as goal
+
+pub returns-then-lacks : goal.returns-then-lacks
+returns-then-lacks c = sym (number_ends _ _ _ (ltb-true _ _ (sym c.lacks.ensures ∙ c.if-lacks.true)))
+
+pub returns : goal.returns
+returns c = ap accepted c.eight.ensures ∙ sym (number_reads _ 8 _ (ltb-false _ _ (sym c.lacks.ensures ∙ c.if-lacks.false)))

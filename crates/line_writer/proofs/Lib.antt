@@ -1,0 +1,2 @@
+-- Laws that follow from those in specs/.
+pub mod ColumnLaws

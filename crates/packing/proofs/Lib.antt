@@ -1,0 +1,2 @@
+-- Results unpacked are the answers of the operations: the laws, and the theorem.
+pub mod PackingLaws

@@ -1,0 +1,17 @@
+use Prim.Native.Nat.{◌≤◌}
+use mathlib.Core.Path.{◌≡◌}
+use lib.ListN.{length}
+use Rattle.taskfile.specs.Task.{max_numbers}
+use Rattle.taskfile.specs.PartsInPlace.{nodes_in}
+use Rattle.estimate.specs.Number.{ranked}
+use Rattle.estimate.specs.Ranks.{rank_number}
+use Rattle.relaxation.specs.Pass.{Filled}
+use Rattle.relaxation.specs.EstimatePass.{number_pass}
+use Rattle.relaxation.specs.Sums.{Apart}
+use Rattle.price.proofs.least_from.Given as goal
+
+abbrev pub invariant-loop-k : goal.invariant-loop-k
+invariant-loop-k l = (l.k ≤ l.count) × (length l.least ≡ max_numbers) × Filled (number_pass l.sizes (rank_number l.ranks)) ranked (nodes_in l.file l.sizes l.nodes 0 l.count) l.k l.least × Apart l.least
+
+abbrev pub decreases-loop-k : goal.decreases-loop-k
+decreases-loop-k l = l.k

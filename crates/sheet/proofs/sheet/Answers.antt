@@ -1,0 +1,37 @@
+-- `sheet::sheet` meets its contract: the file, then the list, then the buffer. Assumes nothing.
+use Prim.Native.Nat.{ℕ}
+use mathlib.Core.Path.{sym, ap, ◌∙◌}
+use mathlib.Core.List.{List}
+use lib.ListN.{length}
+use native.Mathlib.Omega.{arith}
+use Rattle.taskfile.specs.Answers.{counted_answer}
+use Rattle.taskfile.specs.TaskIndexLaws.{index_file, index_ready, index_refused}
+use Rattle.carry.specs.CarryFile.{answer_in, buffer_in}
+use Rattle.carry.specs.AnswerLaws.{refused_in}
+use Rattle.sheet.specs.SheetFile.{sheet_of}
+use Rattle.sheet.specs.FileLaws.{sheet_no_file}
+use Rattle.sheet.proofs.sheet.Goals as goal
+
+-- the counts that the index answers, of the file's task in these bytes
+pub sheet_in-requires : goal.sheet_in-requires
+sheet_in-requires c = index_ready _ c.index_in.ensures.result_value (ap counted_answer c.in-Actions.is) c.bytes_of-bytes.ensures c.index_in.ensures.noted (omega (arith))
+
+pub returns-in-Refused-clause-result_value : goal.returns-in-Refused-clause-result_value
+returns-in-Refused-clause-result_value c =
+    let refused = sheet_no_file c.args.file.now c.args.list.now (index_refused _ (sym c.index_in.ensures.result_value ∙ ap counted_answer c.in-Refused.is)) in
+    (refused_in c.args.out.now refused).0
+
+pub returns-in-Refused-clause-out_after : goal.returns-in-Refused-clause-out_after
+returns-in-Refused-clause-out_after c =
+    let refused = sheet_no_file c.args.file.now c.args.list.now (index_refused _ (sym c.index_in.ensures.result_value ∙ ap counted_answer c.in-Refused.is)) in
+    (refused_in c.args.out.now refused).1
+
+pub returns-in-Actions-clause-result_value : goal.returns-in-Actions-clause-result_value
+returns-in-Actions-clause-result_value c =
+    let file = index_file _ c.index_in.ensures.result_value (ap counted_answer c.in-Actions.is) c.bytes_of-bytes.ensures in
+    c.sheet_in.ensures.result_value ∙ ap (λ (f : List ℕ). answer_in (length c.args.out.now) (sheet_of f c.args.list.now)) file
+
+pub returns-in-Actions-clause-out_after : goal.returns-in-Actions-clause-out_after
+returns-in-Actions-clause-out_after c =
+    let file = index_file _ c.index_in.ensures.result_value (ap counted_answer c.in-Actions.is) c.bytes_of-bytes.ensures in
+    c.sheet_in.ensures.out_after ∙ ap (λ (f : List ℕ). buffer_in c.args.out.now (sheet_of f c.args.list.now)) file

@@ -1,0 +1,2 @@
+-- How long texts about tasks are.
+pub mod LengthLaws
