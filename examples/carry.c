@@ -1,8 +1,8 @@
 /* Compiles a task file, runs a plan to know how many steps it has on the probe, carries it across and back, compares the sums, and traces the steps; what a shop bills for it
  * is said with the sum.
  *
- *   rt staticlib jafrelin
- *   cc -Iinclude examples/carry.c target/staticlib/libjafrelin.a -o carry
+ *   (cd crates/jafrelin && rt lib)
+ *   cc -Iinclude examples/carry.c crates/jafrelin/out/libjafrelin.a -o carry
  *   ./carry examples/breakpoints.task 0 1 2 3 4 5 6
  */
 #include <jafrelin.h>
