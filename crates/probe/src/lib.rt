@@ -33,7 +33,8 @@ pub fn run(file: &[u8], list: &[u16]) -> Ran
     match probefile::step_index::index(file, &mut offsets) {
         Indexed::Refused(why) => Ran::Refused(why),
         Indexed::Steps(variables, steps) => {
-            if Probe::MAX_LIST < list.len() {
+            let long = Probe::MAX_LIST < list.len();
+            if long {
                 return Ran::Refused(Refusal::Long(Probe::MAX_LIST));
             }
             run_from_start(file, variables, &offsets[..steps], list)

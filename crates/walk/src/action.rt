@@ -62,7 +62,8 @@ pub fn run_list(
     ensures result_value { sum_answer result ≡ run_list count (move_at file.now row.now) (partial_at file.now goal) list.now state.old }
     ensures result_value_2 { passed_answer result ≡ run_list count (passes_at file.now row.now) (partial_at file.now goal) list.now state.old }
 {
-    if Task::MAX_LIST < list.len() {
+    let long = Task::MAX_LIST < list.len();
+    if long {
         return Tallied::Refused(Refusal::Long(Task::MAX_LIST));
     }
     let mut sum: u32 = 0;

@@ -18,8 +18,8 @@ file_is c = sym c.index.ensures.0 ∙ ap indexed_answer c.in-Steps.is
 few : (c : goal.In-Steps) → c.in-Steps.steps ≤ length c.index.new.offsets
 few c = omega (arith, (starts _ (file_is c)).steps, c.index.auto.offsets)
 
-pub returns-then-list-gt-MAX_LIST : goal.returns-then-list-gt-MAX_LIST
-returns-then-list-gt-MAX_LIST c = sym (run_long _ (file_is (goal.at.returns-then-list-gt-MAX_LIST c).In-Steps) _ c.if-list-gt-MAX_LIST.true)
+pub returns-then-long : goal.returns-then-long
+returns-then-long c = sym (run_long _ (file_is (goal.at.returns-then-long c).In-Steps) _ c.if-long.true)
 
 pub slice_bounds-offsets-end : goal.slice_bounds-offsets-end
 slice_bounds-offsets-end c = few (goal.at.slice_bounds-offsets-end c).In-Steps
@@ -30,10 +30,10 @@ slice_bounds-run_from_start-end c = sym (length-take-le _ _ (few (goal.at.slice_
 pub run_from_start-requires : goal.run_from_start-requires
 run_from_start-requires c =
     let s = starts _ (file_is (goal.at.run_from_start-requires c).In-Steps) in
-    (c.if-list-gt-MAX_LIST.false, s.variables, s.fits)
+    (c.if-long.false, s.variables, s.fits)
 
 pub returns-in-Refused : goal.returns-in-Refused
 returns-in-Refused c = sym (run_refused _ _ (sym c.index.ensures.0 ∙ ap indexed_answer c.in-Refused.is))
 
-pub returns-else-list-gt-MAX_LIST : goal.returns-else-list-gt-MAX_LIST
-returns-else-list-gt-MAX_LIST c = c.run_from_start.ensures ∙ sym (run_fits _ (file_is (goal.at.returns-else-list-gt-MAX_LIST c).In-Steps) c.index.new.offsets c.index.ensures.1 (few (goal.at.returns-else-list-gt-MAX_LIST c).In-Steps) _ c.if-list-gt-MAX_LIST.false)
+pub returns-else-long : goal.returns-else-long
+returns-else-long c = c.run_from_start.ensures ∙ sym (run_fits _ (file_is (goal.at.returns-else-long c).In-Steps) c.index.new.offsets c.index.ensures.1 (few (goal.at.returns-else-long c).In-Steps) _ c.if-long.false)

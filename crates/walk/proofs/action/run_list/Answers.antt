@@ -31,14 +31,14 @@ did c =
 small : (c : goal.In-Next) → c.in-Next.cost ≤ max_walk
 small c = subst (CostMost max_walk) c.in-Next.is c.apply_action-act.ensures.cost_most
 
-pub returns-then-list-gt-MAX_LIST-clause-result_value : goal.returns-then-list-gt-MAX_LIST-clause-result_value
-returns-then-list-gt-MAX_LIST-clause-result_value c = run_long _ _ _ _ _ c.if-list-gt-MAX_LIST.true
+pub returns-then-long-clause-result_value : goal.returns-then-long-clause-result_value
+returns-then-long-clause-result_value c = run_long _ _ _ _ _ c.if-long.true
 
-pub returns-then-list-gt-MAX_LIST-clause-result_value_2 : goal.returns-then-list-gt-MAX_LIST-clause-result_value_2
-returns-then-list-gt-MAX_LIST-clause-result_value_2 c = run_long _ _ _ _ _ c.if-list-gt-MAX_LIST.true
+pub returns-then-long-clause-result_value_2 : goal.returns-then-long-clause-result_value_2
+returns-then-long-clause-result_value_2 c = run_long _ _ _ _ _ c.if-long.true
 
 pub loop-i-init : goal.loop-i-init
-loop-i-init c = (omega arith, refl, omega arith, omega arith, run_starts _ _ _ _ _ c.if-list-gt-MAX_LIST.false, run_starts _ _ _ _ _ c.if-list-gt-MAX_LIST.false)
+loop-i-init c = (omega arith, refl, omega arith, omega arith, run_starts _ _ _ _ _ c.if-long.false, run_starts _ _ _ _ _ c.if-long.false)
 
 pub returns-then-count-number-clause-result_value : goal.returns-then-count-number-clause-result_value
 returns-then-count-number-clause-result_value c = running_missing c.loop-i.invariant.4 c.loop-i-test.true c.if-count-number.true
