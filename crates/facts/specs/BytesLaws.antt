@@ -1,6 +1,9 @@
 -- Laws of little-endian numbers: joined bytes, what is written is read back, and how large k bytes can be.
-use Rattle.std.specs.Prelude.{◌≡◌, refl, ℕ, zero, suc, ◌+◌, ◌*◌, ◌/◌, ◌^◌, ◌≤◌, ◌<◌, min, List, [], ◌∷◌, ◌++◌, length, get_or, take, drop}
-use Rattle.std.proofs.Common.{ap, ◌∙◌, pow-suc, mul_assoc, mul_comm, arith, length-drop, length-take, drop-cons, take-add, drop-drop, length-take-le}
+use Rattle.std.specs.Prelude.{◌≡◌, refl, ℕ, zero, suc, ◌+◌, ◌*◌, ◌/◌, ◌%◌, ◌^◌, ◌≤◌, ◌<◌, min, List, [], ◌∷◌, ◌++◌, length, get_or, take, drop}
+use Rattle.std.proofs.Common.{add_assoc, ap, sym, ◌∙◌, pow-suc, mul_assoc, mul_comm, arith, length-drop, length-take, drop-cons, take-add, drop-drop, length-take-le}
+use Rattle.std.proofs.Math.Nat.{div-div-eq-div-mul}
+use Rattle.std.specs.Int.{to_le_bytes, bytes_low_first}
+use mir.Syntax.{w64}
 use Rattle.facts.specs.Bytes.{little, number_at, bytes_of, Bytes}
 
 -- ---- a number from its halves
@@ -23,6 +26,30 @@ number_one f at h = rw (drop-cons f at 0 h) (omega arith)
 
 pub number_two : (f : List ℕ) (at : ℕ) → at + 2 ≤ length f → number_at 2 f at ≡ get_or f at 0 + 256 * get_or f (at + 1) 0
 number_two f at h = omega (arith, number_halves 1 1 f at (omega arith), number_one f at (omega arith), number_one f (at + 1) (omega arith))
+
+number_four : (f : List ℕ) (at : ℕ) → at + 4 ≤ length f → number_at 4 f at ≡ get_or f at 0 + 256 * get_or f (at + 1) 0 + 65536 * get_or f (at + 2) 0 + 16777216 * get_or f (at + 3) 0
+number_four f at h =
+    let high : number_at 2 f (at + 2) ≡ get_or f (at + 2) 0 + 256 * get_or f (at + 3) 0 = number_two f (at + 2) (omega arith) ∙ rw (add_assoc at 2 1) in
+    omega (arith, number_halves 2 2 f at (omega arith), number_two f at (omega arith), high)
+
+pub number_eight : (f : List ℕ) (at : ℕ) → at + 8 ≤ length f → number_at 8 f at ≡ (get_or f at 0 + 256 * get_or f (at + 1) 0 + 65536 * get_or f (at + 2) 0 + 16777216 * get_or f (at + 3) 0)
+    + 4294967296 * (get_or f (at + 4) 0 + 256 * get_or f (at + 5) 0 + 65536 * get_or f (at + 6) 0 + 16777216 * get_or f (at + 7) 0)
+number_eight f at h =
+    let high : number_at 4 f (at + 4) ≡ get_or f (at + 4) 0 + 256 * get_or f (at + 5) 0 + 65536 * get_or f (at + 6) 0 + 16777216 * get_or f (at + 7) 0 =
+    number_four f (at + 4) (omega arith) ∙ rw (add_assoc at 4 1, add_assoc at 4 2, add_assoc at 4 3) in
+    omega (arith, number_halves 4 4 f at (omega arith), number_four f at (omega arith), high)
+
+-- ---- the library's bytes
+
+low_bytes : (k i n : ℕ) → bytes_low_first (suc i) k n ≡ bytes_of k (n / 256 ^ suc i)
+low_bytes zero i n = refl
+low_bytes (suc k) i n =
+    let next : n / 256 ^ suc (suc i) ≡ n / 256 ^ suc i / 256 = sym (div-div-eq-div-mul n (256 ^ suc i) 256 ∙ ap (λ p. n / p) (sym (pow-suc 256 (suc i)))) in
+    ap (◌∷◌ (n / 256 ^ suc i % 256)) (low_bytes k (suc i) n ∙ ap (bytes_of k) next)
+
+-- the bytes that `to_le_bytes` makes of a number of 64 bits are its 8 bytes
+pub library_bytes : (n : ℕ) → to_le_bytes w64 n ≡ bytes_of 8 n
+library_bytes n = ap (◌∷◌ (n % 256)) (low_bytes 7 0 n)
 
 -- ---- written and read back
 

@@ -13,6 +13,7 @@ pub mod Answers
 pub mod WellFormed
 -- Laws.
 pub mod ReadLaws
+pub mod AnswerLaws
 pub mod ListLaws
 pub mod RefusalLaws
 pub mod BytesLaws

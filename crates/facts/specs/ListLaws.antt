@@ -1,8 +1,7 @@
 -- Laws of lists by number and by index.
-use Rattle.std.specs.Prelude.{◌≡◌, refl, Bool, true, false, ℕ, zero, suc, ◌+◌, ◌≤◌, ◌<◌, List, [], ◌∷◌, length, get_or}
+use Rattle.std.specs.Prelude.{◌≡◌, refl, Bool, true, false, ℕ, zero, suc, ◌+◌, ◌≤◌, ◌<◌, List, [], ◌∷◌, length, get_or, None, Some, slice_get}
 use Rattle.std.proofs.Common.{ap, subst, arith}
-use Rattle.std.proofs.Math.Option.{none, some, none-ne-some, some-injective}
-use Rattle.std.proofs.Math.ListN.{get_elem?}
+use Rattle.std.proofs.lemmas.Option.{none-some, same_Some}
 use Rattle.facts.specs.Lists.{up_from, total, find, All, Zip, nil, cons, At, here, there}
 
 -- ---- numbers from k on
@@ -19,17 +18,17 @@ at_up_from k (suc n) (suc j) q l e = there (at_up_from (suc k) n j q (omega arit
 -- ---- an element at an index
 
 module _ {A : Type 0} where
-  pub look : {xs : List A} {k : ℕ} {x : A} → At xs k x → get_elem? xs k ≡ some x
+  pub look : {xs : List A} {k : ℕ} {x : A} → At xs k x → slice_get xs k ≡ Some x
   look here = refl
   look (there h) = look h
 
-  pub found : (xs : List A) (k : ℕ) {x : A} → get_elem? xs k ≡ some x → At xs k x
-  found [] k {x} h = absurd (none-ne-some x h)
-  found (y ∷ xs) zero {x} h = subst (λ (z : A). At (y ∷ xs) zero z) (some-injective y x h) here
+  pub found : (xs : List A) (k : ℕ) {x : A} → slice_get xs k ≡ Some x → At xs k x
+  found [] k {x} h = absurd (none-some x h)
+  found (y ∷ xs) zero {x} h = subst (λ (z : A). At (y ∷ xs) zero z) (same_Some y x h) here
   found (y ∷ xs) (suc k) h = there (found xs k h)
 
   -- there is no element past the last
-  pub look_none : (xs : List A) (k : ℕ) → length xs ≤ k → get_elem? xs k ≡ none
+  pub look_none : (xs : List A) (k : ℕ) → length xs ≤ k → slice_get xs k ≡ None
   look_none [] k l = refl
   look_none (x ∷ xs) zero l = absurd (omega arith)
   look_none (x ∷ xs) (suc k) l = look_none xs k (omega arith)
@@ -53,15 +52,15 @@ module _ {A : Type 0} where
 -- ---- the first element that passes a test
 
 module _ {A : Type 0} (test : A → Bool) where
-  pub find_inv : (P : A → Type 0) (xs : List A) {x : A} → All P xs → find test xs ≡ some x → P x × (test x ≡ true)
-  find_inv P [] {x} a h = absurd (none-ne-some x h)
+  pub find_inv : (P : A → Type 0) (xs : List A) {x : A} → All P xs → find test xs ≡ Some x → P x × (test x ≡ true)
+  find_inv P [] {x} a h = absurd (none-some x h)
   find_inv P (y ∷ xs) {x} a h = go (test y) refl h (find_inv P xs a.1)
     where
-      go : (b : Bool) → test y ≡ b → elim b [ true ↦ some y | false ↦ find test xs ] ≡ some x → (find test xs ≡ some x → P x × (test x ≡ true)) → P x × (test x ≡ true)
-      go true e h on = subst (λ (z : A). P z × (test z ≡ true)) (some-injective y x h) (a.0, e)
+      go : (b : Bool) → test y ≡ b → elim b [ true ↦ Some y | false ↦ find test xs ] ≡ Some x → (find test xs ≡ Some x → P x × (test x ≡ true)) → P x × (test x ≡ true)
+      go true e h on = subst (λ (z : A). P z × (test z ≡ true)) (same_Some y x h) (a.0, e)
       go false e h on = on h
 
-  pub find_none : (xs : List A) → All (λ (x : A). test x ≡ false) xs → find test xs ≡ none
+  pub find_none : (xs : List A) → All (λ (x : A). test x ≡ false) xs → find test xs ≡ None
   find_none [] a = refl
   find_none (y ∷ xs) a = rw (a.0, find) (find_none xs a.1)
 

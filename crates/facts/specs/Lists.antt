@@ -1,6 +1,5 @@
 -- Lists by number: what is made from each element, and a property of each.
-use Rattle.std.specs.Prelude.{ℕ, zero, suc, ◌+◌, Bool, true, false, List, [], ◌∷◌}
-use Rattle.std.proofs.Math.Option.{Option, none, some}
+use Rattle.std.specs.Prelude.{ℕ, zero, suc, ◌+◌, Bool, true, false, List, [], ◌∷◌, Option, None, Some}
 
 -- the numbers from k on, n of them
 abbrev pub up_from : ℕ → ℕ → List ℕ
@@ -14,8 +13,8 @@ total size (x ∷ xs) = size x + total size xs
 
 -- the first element that passes a test
 abbrev pub find : {A : Type 0} → (A → Bool) → List A → Option A
-find test [] = none
-find test (x ∷ xs) = elim (test x) [ true ↦ some x | false ↦ find test xs ]
+find test [] = None
+find test (x ∷ xs) = elim (test x) [ true ↦ Some x | false ↦ find test xs ]
 
 -- P of each element
 abbrev pub All : {A : Type 0} → (A → Type 0) → List A → Type 0

@@ -1,7 +1,6 @@
 -- The refusals of document 01, "Turned down", and of document 02: the number and the place that the document gives for each case of the code's enum.
 -- Every promise about a refusal goes through these two.
-use Rattle.std.specs.Prelude.{ℕ, List, [], ◌∷◌, eqb}
-use Rattle.std.proofs.Math.Option.{Option}
+use Rattle.std.specs.Prelude.{ℕ, List, [], ◌∷◌, eqb, Option}
 use Rattle.facts.specs.Lists.{find}
 use Rattle.facts.specs.declared.Refusal.{Refusal}
 use Rattle.facts.specs.declared.Refusal.TheVariants.{Ends, Trailing, Range, Outside, Stray, Diagram, Short, Long, Blocked, Unmet, Missing, Width, Lacking}

@@ -6,10 +6,9 @@ pub mod write;
 
 ghost use Rattle.std.specs.Prelude.{◌≡◌};
 ghost use Rattle.facts.specs.Refusal.{number, place, refusal_with};
-ghost use Rattle.facts.specs.Answers.{numbered_answer};
 
 // Why an input is turned down, each with its place (document 01, "Turned down").
-#[derive(Clone, Copy)]
+#[derive(Clone, Copy, Debug, PartialEq, Eq)]
 pub enum Refusal {
     // 1: the file ends before or inside a field
     Ends(usize),
@@ -39,122 +38,68 @@ pub enum Refusal {
     Lacking(usize),
 }
 
-// The number that document 01 gives to a refusal.
-pub fn refusal_number(why: Refusal) -> u8
-    ensures { result ≡ number why }
-{
-    match why {
-        Refusal::Ends(_) => 1,
-        Refusal::Trailing(_) => 2,
-        Refusal::Range(_) => 3,
-        Refusal::Outside(_) => 4,
-        Refusal::Stray(_) => 5,
-        Refusal::Diagram(_) => 6,
-        Refusal::Short(_) => 7,
-        Refusal::Long(_) => 8,
-        Refusal::Blocked(_) => 9,
-        Refusal::Unmet(_) => 10,
-        Refusal::Missing(_) => 11,
-        Refusal::Width(_) => 12,
-        Refusal::Lacking(_) => 17,
+impl Refusal {
+    // The number that document 01 gives to a refusal.
+    pub fn number(self) -> u8
+        ensures { result ≡ number self }
+    {
+        match self {
+            Refusal::Ends(_) => 1,
+            Refusal::Trailing(_) => 2,
+            Refusal::Range(_) => 3,
+            Refusal::Outside(_) => 4,
+            Refusal::Stray(_) => 5,
+            Refusal::Diagram(_) => 6,
+            Refusal::Short(_) => 7,
+            Refusal::Long(_) => 8,
+            Refusal::Blocked(_) => 9,
+            Refusal::Unmet(_) => 10,
+            Refusal::Missing(_) => 11,
+            Refusal::Width(_) => 12,
+            Refusal::Lacking(_) => 17,
+        }
     }
-}
 
-// The place of a refusal.
-pub fn refusal_place(why: Refusal) -> usize
-    ensures { result ≡ place why }
-{
-    match why {
-        Refusal::Ends(p) => p,
-        Refusal::Trailing(p) => p,
-        Refusal::Range(p) => p,
-        Refusal::Outside(p) => p,
-        Refusal::Stray(p) => p,
-        Refusal::Diagram(p) => p,
-        Refusal::Short(p) => p,
-        Refusal::Long(p) => p,
-        Refusal::Blocked(p) => p,
-        Refusal::Unmet(p) => p,
-        Refusal::Missing(p) => p,
-        Refusal::Width(p) => p,
-        Refusal::Lacking(p) => p,
+    // The place of a refusal.
+    pub fn place(self) -> usize
+        ensures { result ≡ place self }
+    {
+        match self {
+            Refusal::Ends(p)
+            | Refusal::Trailing(p)
+            | Refusal::Range(p)
+            | Refusal::Outside(p)
+            | Refusal::Stray(p)
+            | Refusal::Diagram(p)
+            | Refusal::Short(p)
+            | Refusal::Long(p)
+            | Refusal::Blocked(p)
+            | Refusal::Unmet(p)
+            | Refusal::Missing(p)
+            | Refusal::Width(p)
+            | Refusal::Lacking(p) => p,
+        }
     }
-}
 
-// The refusal that has a number, if there is one.
-#[derive(Clone, Copy)]
-pub enum Numbered {
-    Is(Refusal),
-    Not,
-}
-
-// The refusal that has a number, at a place.
-pub fn refusal_with(number: u64, place: usize) -> Numbered
-    ensures { numbered_answer result ≡ refusal_with number place }
-{
-    match number {
-        1 => Numbered::Is(Refusal::Ends(place)),
-        2 => Numbered::Is(Refusal::Trailing(place)),
-        3 => Numbered::Is(Refusal::Range(place)),
-        4 => Numbered::Is(Refusal::Outside(place)),
-        5 => Numbered::Is(Refusal::Stray(place)),
-        6 => Numbered::Is(Refusal::Diagram(place)),
-        7 => Numbered::Is(Refusal::Short(place)),
-        8 => Numbered::Is(Refusal::Long(place)),
-        9 => Numbered::Is(Refusal::Blocked(place)),
-        10 => Numbered::Is(Refusal::Unmet(place)),
-        11 => Numbered::Is(Refusal::Missing(place)),
-        12 => Numbered::Is(Refusal::Width(place)),
-        17 => Numbered::Is(Refusal::Lacking(place)),
-        _ => Numbered::Not,
+    // The refusal that has a number, at a place, if there is one.
+    pub fn with(number: u64, place: usize) -> Option<Refusal>
+        ensures { result ≡ refusal_with number place }
+    {
+        match number {
+            1 => Some(Refusal::Ends(place)),
+            2 => Some(Refusal::Trailing(place)),
+            3 => Some(Refusal::Range(place)),
+            4 => Some(Refusal::Outside(place)),
+            5 => Some(Refusal::Stray(place)),
+            6 => Some(Refusal::Diagram(place)),
+            7 => Some(Refusal::Short(place)),
+            8 => Some(Refusal::Long(place)),
+            9 => Some(Refusal::Blocked(place)),
+            10 => Some(Refusal::Unmet(place)),
+            11 => Some(Refusal::Missing(place)),
+            12 => Some(Refusal::Width(place)),
+            17 => Some(Refusal::Lacking(place)),
+            _ => None,
+        }
     }
-}
-
-// A number that was read.
-#[derive(Clone, Copy)]
-pub enum Field {
-    Value(u64),
-    Refused(Refusal),
-}
-
-// Where the next field starts.
-#[derive(Clone, Copy)]
-pub enum Past {
-    Next(usize),
-    Refused(Refusal),
-}
-
-// Whether an input is accepted.
-#[derive(Clone, Copy)]
-pub enum Checked {
-    Accepted,
-    Refused(Refusal),
-}
-
-// The head of a file: the number of its variables, and where the field after the goal starts.
-#[derive(Clone, Copy)]
-pub enum Headed {
-    Head(usize, usize),
-    Refused(Refusal),
-}
-
-// What a run answers.
-#[derive(Clone, Copy)]
-pub enum Ran {
-    Sum(u32),
-    Refused(Refusal),
-}
-
-// What an action or a step answers; the state stands beside it.
-#[derive(Clone, Copy)]
-pub enum Applied {
-    Next(u32),
-    Blocked,
-}
-
-// Whether a partial state holds, and if so where it ends.
-#[derive(Clone, Copy)]
-pub enum Held {
-    Ends(usize),
-    Not,
 }

@@ -45,20 +45,6 @@ fn put_map(out: &mut [u8], map: u64) -> usize
     requires { 8 ≤ length out.old }
     ensures { Wrote (bytes_of 8 map) out.old out.new result }
 {
-    let n1 = map / 256;
-    let n2 = n1 / 256;
-    let n3 = n2 / 256;
-    let n4 = n3 / 256;
-    let n5 = n4 / 256;
-    let n6 = n5 / 256;
-    let n7 = n6 / 256;
-    out[0] = (map % 256) as u8;
-    out[1] = (n1 % 256) as u8;
-    out[2] = (n2 % 256) as u8;
-    out[3] = (n3 % 256) as u8;
-    out[4] = (n4 % 256) as u8;
-    out[5] = (n5 % 256) as u8;
-    out[6] = (n6 % 256) as u8;
-    out[7] = (n7 % 256) as u8;
+    out[..8].copy_from_slice(&map.to_le_bytes());
     8
 }

@@ -4,20 +4,20 @@
 mod pass;
 
 ghost use Rattle.std.specs.Prelude.{◌≡◌, length};
-ghost use Rattle.taskfile.specs.Answers.{counted_answer};
+ghost use Rattle.facts.specs.Answers.{answer};
 ghost use Rattle.taskfile.specs.Blank.{or_else};
 ghost use Rattle.taskfile.specs.Index.{index_answer, Noted};
 
 use facts::Refusal;
-use taskfile::{Counted, Task};
+use taskfile::Task;
 
 // The index of a file, noted in a lent row: how many variables and actions there are, or the refusal; 7 with the length needed for a row that is too short.
-pub fn index_in(file: &[u8], row: &mut [usize]) -> Counted
-    ensures result_value { counted_answer result ≡ index_answer file.now (length row.old) }
-    ensures noted { Noted file.now (counted_answer result) row.new }
+pub fn index_in(file: &[u8], row: &mut [usize]) -> Result<(usize, usize), Refusal>
+    ensures result_value { answer result ≡ index_answer file.now (length row.old) }
+    ensures noted { Noted file.now (answer result) row.new }
 {
     if row.len() < Task::ROW {
-        return Counted::Refused(Refusal::Short(Task::ROW));
+        return Err(Refusal::Short(Task::ROW));
     }
     pass::index_into(file, row)
 }

@@ -13,10 +13,8 @@ use lib.ListN.{length, get_or, set, take, drop, drop_of_length-le}
 use lib.Seq.{drop-cons, drop-drop, take-add, take-suc-set, drop-set-lt, append_snoc, take_all}
 use borrow.Author.Tests.{eq-eqb, ne_eqb}
 use Rattle.facts.specs.Read.{Read, accepted, refused, ◌>>=◌}
-use Rattle.facts.specs.declared.Held.{Held}
-use Rattle.facts.specs.declared.Held.TheVariants.{Ends, Not}
-use Rattle.facts.specs.Answers.{EndsAt, EndsAlike}
-use Rattle.facts.specs.Partial.{Partial, equal, agrees, after, rest, above, holds, apply, standing_at}
+use Rattle.std.specs.Prelude.{Option, Some, None, IfSome}
+use Rattle.facts.specs.Partial.{Partial, Alike, equal, agrees, after, rest, above, holds, apply, standing_at}
 use Rattle.facts.specs.Bits.{Lowest}
 use Rattle.facts.specs.BitsLaws.{even_bit, even_half, odd_bit, odd_half, skip, first_even, first_odd, first_cut, above_even, above_odd, no_bits, cut_values, cleared}
 use Rattle.facts.specs.PartialLaws.{holds_empty, apply_empty}
@@ -175,6 +173,6 @@ module _ (f s : List ℕ) {m z a : ℕ} (e : Lowest m z a) (at : ℕ) where
       apply_skip ∙ (rw (drop-cons s z 0 l, apply_odd f a at h (get_or s z 0) (drop (suc z) s))) ∙ sym (left ∙ same)
 
 -- where the values end the partial state ends
-pub ends_alike : (f : List ℕ) {end past : ℕ} → past ≡ end → (r : Held) → EndsAt end r → EndsAlike f past r
-ends_alike f e (Ends at) h = equal (h ∙ sym e)
-ends_alike f e Not h = tt
+pub ends_alike : (f : List ℕ) {end past : ℕ} → past ≡ end → (r : Option ℕ) → IfSome r (λ at. at ≡ end) → IfSome r (λ at. Alike f at past)
+ends_alike f e (Some at) h = equal (h ∙ sym e)
+ends_alike f e None h = tt

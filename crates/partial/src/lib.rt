@@ -3,15 +3,17 @@
 
 pub mod state;
 
-ghost use Rattle.std.specs.Prelude.{◌≡◌, ◌+◌, ◌^◌, ◌≤◌, ◌<◌, leb, length};
+ghost use Rattle.std.specs.Prelude.{◌≡◌, ◌+◌, ◌^◌, ◌≤◌, ◌<◌, leb, length, is_some, IfSome};
 ghost use Rattle.std.specs.Int.Count.{ones};
-ghost use Rattle.facts.specs.Answers.{past_answer, held_answer, EndsAt, EndsAlike};
+ghost use Rattle.facts.specs.Answers.{answer};
 ghost use Rattle.facts.specs.Bits.{LowestBit};
 ghost use Rattle.facts.specs.Partial.{holds, apply, partial_bytes, standing_at, partial_at, past_partial, Alike};
 ghost use Rattle.facts.specs.Fields.{next_of, standing, read_value, read_values, read_partial, read_operator};
+ghost use Rattle.std.specs.Iterator.{at_most};
+ghost use Rattle.partial.specs.Standing.{Takes};
 
+use facts::Refusal;
 use facts::number::{read_map, read_word};
-use facts::{Field, Held, Past, Refusal};
 
 // The length in bytes of a partial state with this map: "The count of standing bits is the count of value bytes."
 pub fn partial_length(map: u64) -> usize
@@ -25,43 +27,31 @@ pub fn length_at(file: &[u8], at: usize) -> usize
     ensures { (result ≡ partial_bytes (partial_at file.now at)) × (result ≤ 72) }
 {
     match read_map(file, at) {
-        Field::Value(map) => partial_length(map),
-        Field::Refused(_) => 8,
+        Ok(map) => partial_length(map),
+        Err(_) => 8,
     }
 }
 
 // Past the partial state at an offset, checked against the domain sizes of the variables.
-pub fn partial_end(file: &[u8], at: usize, sizes: &[u8]) -> Past
-    ensures { past_answer result ≡ next_of (read_partial file.now sizes.now at) }
+pub fn partial_end(file: &[u8], at: usize, sizes: &[u8]) -> Result<usize, Refusal>
+    ensures { answer result ≡ next_of (read_partial file.now sizes.now at) }
 {
-    match read_map(file, at) {
-        Field::Refused(why) => Past::Refused(why),
-        Field::Value(map) => {
-            if stray(map, sizes.len()) {
-                return Past::Refused(Refusal::Stray(at));
-            }
-            match values_end(file, at + 8, map, sizes) {
-                Past::Refused(why) => Past::Refused(why),
-                Past::Next(_) => Past::Next(at + partial_length(map)),
-            }
-        }
+    let map = read_map(file, at)?;
+    if stray(map, sizes.len()) {
+        return Err(Refusal::Stray(at));
     }
+    values_end(file, at + 8, map, sizes)?;
+    Ok(at + partial_length(map))
 }
 
 // Past an operator: precondition, effect, weight.
-pub fn operator_end(file: &[u8], at: usize, sizes: &[u8]) -> Past
-    ensures { past_answer result ≡ next_of (read_operator file.now sizes.now at) }
+pub fn operator_end(file: &[u8], at: usize, sizes: &[u8]) -> Result<usize, Refusal>
+    ensures { answer result ≡ next_of (read_operator file.now sizes.now at) }
 {
-    match partial_end(file, at, sizes) {
-        Past::Refused(why) => Past::Refused(why),
-        Past::Next(effect) => match partial_end(file, effect, sizes) {
-            Past::Refused(why) => Past::Refused(why),
-            Past::Next(weight) => match read_word(file, weight) {
-                Field::Refused(why) => Past::Refused(why),
-                Field::Value(_) => Past::Next(weight + 2),
-            },
-        },
-    }
+    let effect = partial_end(file, at, sizes)?;
+    let weight = partial_end(file, effect, sizes)?;
+    read_word(file, weight)?;
+    Ok(weight + 2)
 }
 
 // Whether a map has a bit for no variable, of n; or a set one for no value.
@@ -78,14 +68,14 @@ pub fn stray(map: u64, n: usize) -> bool
 }
 
 // The lowest standing bit of a map: how many bits lie below it, and the bits above it.
-#[derive(Clone, Copy)]
-pub struct Bit {
-    pub zeros: usize,
-    pub above: u64,
+#[derive(Clone, Copy, Debug, PartialEq, Eq)]
+struct Bit {
+    zeros: usize,
+    above: u64,
 }
 
 // The lowest standing bit; below it there are 64 where none stands.
-pub fn lowest_bit(map: u64) -> Bit
+fn lowest_bit(map: u64) -> Bit
     ensures { LowestBit map result.zeros result.above }
 {
     if map == 0 {
@@ -101,24 +91,54 @@ pub fn lowest_bit(map: u64) -> Bit
     }
 }
 
+// The standing bits of a map, the lowest first, by number.
+#[derive(Clone, Copy, Debug, PartialEq, Eq)]
+pub struct Standing {
+    rest: u64,
+}
+
+impl Iterator for Standing {
+    type Item = usize;
+
+    ghost remaining = { λ s. at_most s.rest };
+
+    ghost next_gives = { λ s bit s'. Takes s.rest bit s'.rest };
+
+    fn next(&mut self) -> Option<usize> {
+        if self.rest == 0 {
+            return None;
+        }
+        let bit = lowest_bit(self.rest).zeros;
+        self.rest &= self.rest - 1;
+        Some(bit)
+    }
+}
+
+// The bits that stand in a map.
+pub fn standing_bits(map: u64) -> Standing
+    ensures { result.rest ≡ map }
+{
+    Standing { rest: map }
+}
+
 // Past the value of a variable that has size values.
-pub fn value_end(file: &[u8], at: usize, size: u8) -> Past
-    ensures { past_answer result ≡ next_of (read_value file.now size at) }
+pub fn value_end(file: &[u8], at: usize, size: u8) -> Result<usize, Refusal>
+    ensures { answer result ≡ next_of (read_value file.now size at) }
 {
     if file.len() <= at {
-        return Past::Refused(Refusal::Ends(at));
+        return Err(Refusal::Ends(at));
     }
     if file[at] < size {
-        Past::Next(at + 1)
+        Ok(at + 1)
     } else {
-        Past::Refused(Refusal::Outside(at))
+        Err(Refusal::Outside(at))
     }
 }
 
 // Past the values for the standing bits of a map: one test tells whether the file has all of them.
-fn values_end(file: &[u8], from: usize, map: u64, sizes: &[u8]) -> Past
+fn values_end(file: &[u8], from: usize, map: u64, sizes: &[u8]) -> Result<usize, Refusal>
     requires { (from ≤ length file.now) × (map < 2 ^ length sizes.now) }
-    ensures { past_answer result ≡ next_of (read_values file.now (standing map sizes.now) from) }
+    ensures { answer result ≡ next_of (read_values file.now (standing map sizes.now) from) }
 {
     if file.len() - from < partial_length(map) - 8 {
         return values_cut(file, from, map, sizes);
@@ -126,59 +146,44 @@ fn values_end(file: &[u8], from: usize, map: u64, sizes: &[u8]) -> Past
     values_whole(file, from, map, sizes)
 }
 
-// The same, where the file has all of them, from one standing bit to the next: each turn takes the lowest one away.
-fn values_whole(file: &[u8], from: usize, map: u64, sizes: &[u8]) -> Past
+// The same, where the file has all of them, from one standing bit to the next.
+fn values_whole(file: &[u8], from: usize, map: u64, sizes: &[u8]) -> Result<usize, Refusal>
     requires { (from + ones map ≤ length file.now) × (map < 2 ^ length sizes.now) }
-    ensures { past_answer result ≡ next_of (read_values file.now (standing map sizes.now) from) }
+    ensures { answer result ≡ next_of (read_values file.now (standing map sizes.now) from) }
 {
     let mut at = from;
-    let mut rest = map;
-    while rest != 0 {
-        let bit = lowest_bit(rest);
-        let v = bit.zeros;
+    for v in standing_bits(map) {
         if file[at] < sizes[v] {
             at += 1;
-            rest = rest & (rest - 1);
             continue;
         }
-        return Past::Refused(Refusal::Outside(at));
+        return Err(Refusal::Outside(at));
     }
-    Past::Next(at)
+    Ok(at)
 }
 
 // The same, value by value.
-fn values_cut(file: &[u8], from: usize, map: u64, sizes: &[u8]) -> Past
-    ensures { past_answer result ≡ next_of (read_values file.now (standing map sizes.now) from) }
+fn values_cut(file: &[u8], from: usize, map: u64, sizes: &[u8]) -> Result<usize, Refusal>
+    ensures { answer result ≡ next_of (read_values file.now (standing map sizes.now) from) }
 {
     let mut at = from;
-    let mut rest = map;
-    while rest != 0 {
-        let bit = lowest_bit(rest);
-        let v = bit.zeros;
+    for v in standing_bits(map) {
         if sizes.len() <= v {
-            return Past::Next(at);
+            return Ok(at);
         }
-        match value_end(file, at, sizes[v]) {
-            Past::Next(next) => {
-                at = next;
-            }
-            Past::Refused(why) => {
-                return Past::Refused(why);
-            }
-        }
-        rest = rest & (rest - 1);
+        at = value_end(file, at, sizes[v])?;
     }
-    Past::Next(at)
+    Ok(at)
 }
 
 // Whether the partial state at an offset holds in a state, and if so where it ends.
-pub fn held_at(file: &[u8], at: usize, state: &[u8]) -> Held
-    ensures result_value { held_answer result ≡ holds (partial_at file.now at) state.now }
-    ensures ends_alike { EndsAlike file.now (past_partial file.now at) result }
+pub fn held_at(file: &[u8], at: usize, state: &[u8]) -> Option<usize>
+    ensures result_value { is_some result ≡ holds (partial_at file.now at) state.now }
+    ensures ends_alike { IfSome result (λ end. Alike file.now end (past_partial file.now at)) }
 {
     match read_map(file, at) {
-        Field::Refused(_) => Held::Ends(past_map(file, at)),
-        Field::Value(map) => values_hold(file, at + 8, map, state),
+        Err(_) => Some(past_map(file, at)),
+        Ok(map) => values_hold(file, at + 8, map, state),
     }
 }
 
@@ -186,10 +191,7 @@ pub fn held_at(file: &[u8], at: usize, state: &[u8]) -> Held
 pub fn holds_at(file: &[u8], at: usize, state: &[u8]) -> bool
     ensures { result ≡ holds (partial_at file.now at) state.now }
 {
-    match held_at(file, at, state) {
-        Held::Ends(_) => true,
-        Held::Not => false,
-    }
+    held_at(file, at, state).is_some()
 }
 
 // Past the eight bytes of a map; past the end of the file the offset stays.
@@ -202,30 +204,26 @@ fn past_map(file: &[u8], at: usize) -> usize
     at + 8
 }
 
-// Whether the values from an offset on, for the standing bits of a map, are those of a state; each turn takes the lowest bit away.
-fn values_hold(file: &[u8], from: usize, map: u64, state: &[u8]) -> Held
+// Whether the values from an offset on, for the standing bits of a map, are those of a state.
+fn values_hold(file: &[u8], from: usize, map: u64, state: &[u8]) -> Option<usize>
     requires { from ≤ length file.now }
-    ensures result_value { held_answer result ≡ holds (standing_at file.now map from) state.now }
-    ensures ends_at { EndsAt (from + ones map) result }
+    ensures result_value { is_some result ≡ holds (standing_at file.now map from) state.now }
+    ensures ends_at { IfSome result (λ end. end ≡ from + ones map) }
 {
     let mut at = from;
-    let mut rest = map;
-    while rest != 0 {
-        let bit = lowest_bit(rest);
-        let v = bit.zeros;
+    for v in standing_bits(map) {
         if state.len() <= v {
-            return Held::Ends(past_values(at, rest));
+            return Some(past_values(from, map));
         }
         if file.len() <= at {
-            return Held::Not;
+            return None;
         }
         if file[at] != state[v] {
-            return Held::Not;
+            return None;
         }
-        rest = rest & (rest - 1);
         at += 1;
     }
-    Held::Ends(at)
+    Some(at)
 }
 
 // Past as many values as a map has standing bits.
@@ -242,8 +240,8 @@ pub fn apply_at(file: &[u8], at: usize, state: &mut [u8]) -> usize
     ensures alike { Alike file.now result (past_partial file.now at) }
 {
     match read_map(file, at) {
-        Field::Refused(_) => past_map(file, at),
-        Field::Value(map) => values_set(file, at + 8, map, state),
+        Err(_) => past_map(file, at),
+        Ok(map) => values_set(file, at + 8, map, state),
     }
 }
 
@@ -254,18 +252,14 @@ fn values_set(file: &[u8], from: usize, map: u64, state: &mut [u8]) -> usize
     ensures value { result ≡ from + ones map }
 {
     let mut at = from;
-    let mut rest = map;
-    while rest != 0 {
-        let bit = lowest_bit(rest);
-        let v = bit.zeros;
+    for v in standing_bits(map) {
         if state.len() <= v {
-            return past_values(at, rest);
+            return past_values(from, map);
         }
         if file.len() <= at {
-            return past_values(at, rest);
+            return past_values(from, map);
         }
         state[v] = file[at];
-        rest = rest & (rest - 1);
         at += 1;
     }
     at

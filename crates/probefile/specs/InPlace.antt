@@ -1,5 +1,5 @@
 -- Steps in place: what code does that goes over the bytes of an accepted file, without reading it into values.
-use Rattle.std.specs.Prelude.{◌≡◌, ℕ, ◌+◌, ◌≤◌, ◌<◌, List, length, get_or}
+use Rattle.std.specs.Prelude.{◌≡◌, ℕ, ◌+◌, ◌≤◌, ◌<◌, List, length, get_or, Result, Ok, Err}
 use Rattle.facts.specs.Refusal.{number, place}
 use Rattle.facts.specs.Read.{Read, accepted, refused, with_value}
 use Rattle.facts.specs.Lists.{At}
@@ -8,17 +8,16 @@ use Rattle.facts.specs.Fields.{next_of, value_of, head_at, word_at}
 use Rattle.facts.specs.Run.{Move}
 use Rattle.probefile.specs.Probe.{Step, Probe, perform, max_variables, max_values}
 use Rattle.probefile.specs.ProbeFile.{read_step, read_step_count, read_steps, read_probe}
-use Rattle.probefile.specs.declared.Counted.{Counted}
-use Rattle.probefile.specs.declared.Counted.TheVariants.{Steps, Refused as NotCounted}
+use Rattle.facts.specs.declared.Refusal.{Refusal}
 
 -- how many variables and how many steps the file has
 unfoldable pub probe_at : List ℕ → Read (ℕ × ℕ)
 probe_at f = with_value (λ p. (length p.sizes, length p.steps)) (read_probe f)
 
 -- what is told of what stands before the steps is the head's end and the counts, or why the file is refused
-abbrev pub CountedIn : List ℕ → Counted → Type 0
-CountedIn f (Steps variables at steps) = (head_at f max_variables max_values ≡ accepted (variables, at)) × (value_of (read_step_count f at) ≡ accepted steps)
-CountedIn f (NotCounted why) = probe_at f ≡ refused (number why) (place why)
+abbrev pub CountedIn : List ℕ → Result (ℕ × ℕ × ℕ) Refusal → Type 0
+CountedIn f (Ok (variables, at, steps)) = (head_at f max_variables max_values ≡ accepted (variables, at)) × (value_of (read_step_count f at) ≡ accepted steps)
+CountedIn f (Err why) = probe_at f ≡ refused (number why) (place why)
 
 -- the step at an offset, as its bytes stand
 unfoldable pub step_at : List ℕ → ℕ → Step

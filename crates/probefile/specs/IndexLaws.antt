@@ -1,5 +1,8 @@
 -- Laws of the pass that checks a probe file and notes where its steps start, and of a run by those offsets.
-use Rattle.std.specs.Prelude.{◌≡◌, get_or, drop}
+use Rattle.std.specs.Prelude.{◌≡◌, get_or, drop, Result, IsErrAnd}
+use Rattle.std.proofs.lemmas.Result.{err_from_is_err_and}
+use Rattle.facts.specs.declared.Refusal.{Refusal}
+use Rattle.facts.specs.Refusal.{number, place}
 use Rattle.std.proofs.Math.Path.{sym, ap, subst₂}
 use Rattle.std.proofs.Common.{ap₂, ◌∙◌, subst, arith, ext_get_or, get_or-take}
 use Prim.Native.Nat.{ℕ, ◌+◌, ◌*◌, ◌≤◌, ◌<◌}
@@ -8,12 +11,12 @@ use Rattle.std.proofs.Math.ListN.{length, take, get_or-map}
 use Rattle.std.proofs.lemmas.List.{length-map}
 use Rattle.std.proofs.Math.Seq.{length-take-le}
 use borrow.Author.Tests.{le-leb, lt-leb}
-use Rattle.facts.specs.Read.{accepted, refused, ◌>>=◌}
+use Rattle.facts.specs.Read.{accepted, refused}
 use Rattle.facts.specs.ReadLaws.{made, not_made, value_of_lem, next_of_lem}
 use Rattle.facts.specs.Lists.{up_from, At}
 use Rattle.facts.specs.ListLaws.{length_up_from, at_get_d, at_length}
 use Rattle.facts.specs.Partial.{partial_at}
-use Rattle.facts.specs.Run.{next, run_from}
+use Rattle.facts.specs.Run.{run_from}
 use Rattle.facts.specs.RunLaws.{run_same, list_long, list_fits}
 use Rattle.facts.specs.Fields.{next_of, value_of, Head, read_head, head_at, read_end}
 use Rattle.facts.specs.EachLaws.{each_length, each_at}
@@ -22,7 +25,7 @@ use Rattle.facts.specs.HeadLaws.{head_read, headed, headed_sizes, no_head}
 use Rattle.probefile.specs.Probe.{Step, Probe, max_steps, max_list, perform, step_move, probe_sum, max_variables, max_values}
 use Rattle.probefile.specs.ProbeFile.{read_step, read_step_count, read_steps, read_probe, check_probe, run_probe}
 use Rattle.probefile.specs.ProbeLaws.{probe_lines, count_most, move_at_lem}
-use Rattle.probefile.specs.InPlace.{probe_at, step_at, move_at, Within, Marked, Located, CostBefore, Costed}
+use Rattle.probefile.specs.InPlace.{probe_at, CountedIn, step_at, move_at, Within, Marked, Located, CostBefore, Costed}
 use Rattle.probefile.specs.InPlaceLaws.{step_read, steps_more}
 
 accepted_same : {x y : ℕ} → accepted x ≡ accepted y → x ≡ y
@@ -266,3 +269,9 @@ module _ (f : List ℕ) {n k : ℕ} (h : probe_at f ≡ accepted (n, k)) where
         rw (accepted_probe.reads, list_fits max_list list l)
         (sym (run_in_place f offsets accepted_probe.reads loc list (take n (drop (1 + n) f)) (1 + 2 * n) (omega (arith, accepted_probe.steps)) starts.init starts.goal)
         ∙ ap (λ (j : ℕ). run_from (length (take j offsets)) (move_at f (take j offsets)) (partial_at f (1 + 2 * n)) 0 0 list (take n (drop (1 + n) f))) accepted_probe.steps)
+
+-- a refusal that is handed on says why the file is refused
+pub counted_none : (f : List ℕ) (r : Result (ℕ × ℕ × ℕ) Refusal) (why : Refusal) → IsErrAnd r (λ e. e ≡ why) → probe_at f ≡ refused (number why) (place why) → CountedIn f r
+counted_none f r why h e =
+    let p = err_from_is_err_and r h in
+    subst (CountedIn f) (sym p.1) (subst (λ y. probe_at f ≡ refused (number y) (place y)) (sym p.2) e)

@@ -1,7 +1,6 @@
 -- Definitions.
 pub mod Probe
 pub mod ProbeFile
-pub mod Answers
 pub mod InPlace
 -- Laws.
 pub mod ProbeLaws

@@ -1,7 +1,5 @@
 -- Probe files as values: steps of fixed cost. Document 01, "The probe file".
-use Rattle.std.proofs.Math.Option.{none, some}
-use Rattle.std.specs.Prelude.{ℕ, ◌≤◌, List, length}
-use Rattle.std.proofs.Math.ListN.{get_elem?}
+use Rattle.std.specs.Prelude.{None, Some, ℕ, ◌≤◌, List, length, slice_get}
 use Rattle.facts.specs.Read.{Read}
 use Rattle.facts.specs.Lists.{All}
 use Rattle.facts.specs.Partial.{Partial}
@@ -44,7 +42,7 @@ perform st s = attempt st.pre st.eff st.cost s
 
 -- what step number r does in the state s
 unfoldable pub step_move : List Step → ℕ → List ℕ → Move
-step_move steps r s = elim (get_elem? steps r) [ none ↦ blocked | some st ↦ perform st s ]
+step_move steps r s = elim (slice_get steps r) [ None ↦ blocked | Some st ↦ perform st s ]
 
 -- the sum of a list of any length, run from the initial state, or the refusal
 unfoldable pub probe_sum : Probe → List ℕ → Read ℕ

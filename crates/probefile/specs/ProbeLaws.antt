@@ -1,11 +1,10 @@
 -- Laws of probe files: a file that is accepted is well-formed, one that is written is read back, and a plan is what a run says it is.
-use Rattle.std.specs.Prelude.{◌≡◌, ◌↔◌, ℕ, ◌+◌, ◌≤◌, ◌<◌, List, ◌++◌}
+use Rattle.std.specs.Prelude.{◌≡◌, ◌↔◌, ℕ, ◌+◌, ◌≤◌, ◌<◌, List, ◌++◌, Option, None, Some, slice_get}
 use Rattle.std.proofs.Math.Path.{refl, subst, subst₂}
 use Rattle.std.proofs.Common.{ap, ◌∙◌, zero-add, arith}
 use Rattle.std.proofs.Math.Bool.{true}
-use Rattle.std.proofs.Math.Option.{Option, none, some}
 use Rattle.std.proofs.Math.Dec.{leb}
-use Rattle.std.proofs.Math.ListN.{length, length-append, get_elem?}
+use Rattle.std.proofs.Math.ListN.{length, length-append}
 use borrow.Author.Tests.{le-leb, leb-true}
 use Rattle.facts.specs.Read.{accepted}
 use Rattle.facts.specs.ReadLaws.{through, onward, carried}
@@ -133,11 +132,11 @@ move_at_lem steps s a = rw (look a, step_move)
 
 move_known : (steps : List Step) (r : ℕ) (s e : List ℕ) (c : ℕ) → step_move steps r s ≡ next e c → r < length steps
 unfolding step_move
-move_known steps r s e c h = go (get_elem? steps r) refl h
+move_known steps r s e c h = go (slice_get steps r) refl h
   where
-    go : (o : Option Step) → get_elem? steps r ≡ o → elim o as (λ o. Move) [ none ↦ blocked | some st ↦ perform st s ] ≡ next e c → r < length steps
-    go none q h = absurd (not_blocked h)
-    go (some st) q h = at_length (found steps r q)
+    go : (o : Option Step) → slice_get steps r ≡ o → elim o as (λ o. Move) [ None ↦ blocked | Some st ↦ perform st s ] ≡ next e c → r < length steps
+    go None q h = absurd (not_blocked h)
+    go (Some st) q h = at_length (found steps r q)
 
 -- a list of any length is a plan with the sum c exactly if its run answers c
 pub probe_plan : (p : Probe) (list : List ℕ) (c : ℕ) → ProbePlan p list c ↔ (probe_sum p list ≡ accepted c)

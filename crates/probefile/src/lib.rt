@@ -3,8 +3,6 @@
 
 pub mod step_index;
 
-use facts::Refusal;
-
 // A probe file: its limits.
 #[derive(Clone, Copy)]
 pub struct Probe {}
@@ -30,18 +28,4 @@ impl Probe {
 
     // The numbers of an estimate, document 01's array of 3,762: one for every fact that a file may have, at variable times 66 plus value.
     pub const FACTS: usize = Probe::MAX_VARIABLES * Probe::MAX_VALUES;
-}
-
-// How many variables and how many steps an accepted file has.
-#[derive(Clone, Copy)]
-pub enum Indexed {
-    Steps(usize, usize),
-    Refused(Refusal),
-}
-
-// What stands before the steps: how many variables there are, where the head ends, and how many steps there are.
-#[derive(Clone, Copy)]
-pub enum Counted {
-    Steps(usize, usize, usize),
-    Refused(Refusal),
 }

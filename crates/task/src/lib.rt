@@ -2,42 +2,36 @@
 #![tactic(auto)]
 
 ghost use Rattle.std.specs.Prelude.{◌≡◌};
-ghost use Rattle.facts.specs.Answers.{checked_answer};
+ghost use Rattle.facts.specs.Answers.{answer};
 ghost use Rattle.taskfile.specs.TaskFile.{check_task, cost_task, run_task};
 ghost use Rattle.taskfile.specs.Blank.{file_of};
 ghost use Rattle.taskfile.specs.Index.{Ready};
 ghost use Rattle.taskfile.specs.Answers.{tallied_answer};
 
+use facts::Refusal;
 use facts::number::offset_at;
-use facts::{Checked, Refusal};
 use index::bytes_of;
-use taskfile::{Counted, Tallied, Task};
+use taskfile::{Task, Walked};
 use walk::action::run_list;
 use walk::{own_nodes, walk_from};
 
 // Whether a task file is accepted: refusals 1 to 6.
-pub fn check(file: &[u8]) -> Checked
-    ensures { checked_answer result ≡ check_task file.now }
+pub fn check(file: &[u8]) -> Result<(), Refusal>
+    ensures { answer result ≡ check_task file.now }
 {
     let mut row = [0; Task::ROW];
-    match index::index_in(file, &mut row) {
-        Counted::Refused(why) => Checked::Refused(why),
-        Counted::Actions(_, _) => Checked::Accepted,
-    }
+    index::index_in(file, &mut row)?;
+    Ok(())
 }
 
 // What an action costs in a state, whether or not it applies there, and how many nodes it passes: the file's refusals, then 11 for the number, then 12 and 4 for the state.
-pub fn cost(file: &[u8], action: usize, state: &[u8]) -> Tallied
+pub fn cost(file: &[u8], action: usize, state: &[u8]) -> Result<Walked, Refusal>
     ensures { tallied_answer result ≡ cost_task file.now action state.now }
 {
     let mut row = [0; Task::ROW];
-    match index::index_in(file, &mut row) {
-        Counted::Refused(why) => Tallied::Refused(why),
-        Counted::Actions(variables, actions) => {
-            let bytes = bytes_of(file, &Task::BLANK);
-            cost_in(bytes, variables, actions, &row, action, state)
-        }
-    }
+    let (variables, actions) = index::index_in(file, &mut row)?;
+    let bytes = bytes_of(file, &Task::BLANK);
+    cost_in(bytes, variables, actions, &row, action, state)
 }
 
 // The same, of an accepted file by the bytes in which its task is found.
@@ -48,41 +42,38 @@ fn cost_in(
     row: &[usize],
     action: usize,
     state: &[u8],
-) -> Tallied
+) -> Result<Walked, Refusal>
     requires { Ready file.now variables actions row.now }
     ensures { tallied_answer result ≡ cost_task (file_of file.now) action state.now }
 {
     if actions <= action {
-        return Tallied::Refused(Refusal::Missing(0));
+        return Err(Refusal::Missing(0));
     }
     let last = 1 + variables;
-    match partial::state::check_state(&file[1..last], state) {
-        Checked::Refused(why) => Tallied::Refused(why),
-        Checked::Accepted => {
-            let incoming = offset_at(row, Task::INCOMING + action);
-            let own = own_nodes(row, action);
-            let walked = walk_from(file, incoming, &row[own..], state);
-            Tallied::Sum(walked.cost, walked.passed)
-        }
-    }
+    partial::state::check_state(&file[1..last], state)?;
+    let incoming = offset_at(row, Task::INCOMING + action);
+    let own = own_nodes(row, action);
+    Ok(walk_from(file, incoming, &row[own..], state))
 }
 
 // The sum of a list of actions, and how many nodes they pass: the file's refusals, then 8, then per action 11 before 9, and 10 at the end.
-pub fn run(file: &[u8], list: &[u16]) -> Tallied
+pub fn run(file: &[u8], list: &[u16]) -> Result<Walked, Refusal>
     ensures { tallied_answer result ≡ run_task file.now list.now }
 {
     let mut row = [0; Task::ROW];
-    match index::index_in(file, &mut row) {
-        Counted::Refused(why) => Tallied::Refused(why),
-        Counted::Actions(variables, actions) => {
-            let bytes = bytes_of(file, &Task::BLANK);
-            run_in(bytes, variables, actions, &row, list)
-        }
-    }
+    let (variables, actions) = index::index_in(file, &mut row)?;
+    let bytes = bytes_of(file, &Task::BLANK);
+    run_in(bytes, variables, actions, &row, list)
 }
 
 // The same, likewise: the run starts from a copy of the initial values.
-fn run_in(file: &[u8], variables: usize, actions: usize, row: &[usize], list: &[u16]) -> Tallied
+fn run_in(
+    file: &[u8],
+    variables: usize,
+    actions: usize,
+    row: &[usize],
+    list: &[u16],
+) -> Result<Walked, Refusal>
     requires { Ready file.now variables actions row.now }
     ensures { tallied_answer result ≡ run_task (file_of file.now) list.now }
 {

@@ -1,8 +1,6 @@
 -- Laws of tasks: a plan is what a run says it is, states stay inside the domains, and what one action of an accepted file costs at most.
-use Rattle.std.specs.Prelude.{◌≡◌, refl, ℕ, ◌≤◌, List}
+use Rattle.std.specs.Prelude.{◌≡◌, refl, ℕ, ◌≤◌, List, Option, None, Some, slice_get}
 use Rattle.std.proofs.Common.{le_trans, arith}
-use Rattle.std.proofs.Math.Option.{Option, none, some}
-use Rattle.std.proofs.Math.ListN.{get_elem?}
 use Rattle.facts.specs.Read.{accepted}
 use Rattle.facts.specs.Lists.{At}
 use Rattle.facts.specs.ListLaws.{found}
@@ -33,10 +31,10 @@ module _ (f : List ℕ) {t : Task} (h : read_task f ≡ accepted t) {a : ℕ} {x
 
 pub action_kept : (f : List ℕ) {t : Task} → read_task f ≡ accepted t → Bytes f → (a : ℕ) (s e : List ℕ) (c : ℕ) → Inside t.sizes s → action_move t.actions a s ≡ next e c → Inside t.sizes e × (c ≤ max_cost)
 unfolding action_move
-action_kept f {t} h bytes a s e c inside m = go (get_elem? t.actions a) refl m
+action_kept f {t} h bytes a s e c inside m = go (slice_get t.actions a) refl m
   where
-    go : (o : Option Action) → get_elem? t.actions a ≡ o → elim o as (λ o. Move) [ none ↦ blocked | some x ↦ perform x s ] ≡ next e c → Inside t.sizes e × (c ≤ max_cost)
-    go none q m = absurd (not_blocked m)
-    go (some x) q m =
+    go : (o : Option Action) → slice_get t.actions a ≡ o → elim o as (λ o. Move) [ None ↦ blocked | Some x ↦ perform x s ] ≡ next e c → Inside t.sizes e × (c ≤ max_cost)
+    go None q m = absurd (not_blocked m)
+    go (Some x) q m =
         let k = found t.actions a q in
         (attempt_inside ((task_wf f h).actions k) s inside (cost x s) m, omega (arith, attempt_cost x.pre x.eff (cost x s) s m, accepted_cost f h k s inside bytes))

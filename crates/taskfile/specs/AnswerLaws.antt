@@ -1,12 +1,11 @@
 -- Laws of what the operations answer on an accepted file, by its index.
-use Rattle.std.specs.Prelude.{◌≡◌, refl, length, get_or, drop}
+use Rattle.std.specs.Prelude.{◌≡◌, refl, length, get_or, drop, Option, None, Some, slice_get}
 use Rattle.std.proofs.Math.Path.{ap}
 use Rattle.std.proofs.Common.{arith}
-use Rattle.std.proofs.Math.Option.{Option, none, some}
 use Prim.Native.Nat.{ℕ, ◌+◌, ◌*◌, ◌≤◌}
 use mathlib.Core.List.{List}
-use Rattle.std.proofs.Math.ListN.{get_elem?, take}
-use Rattle.facts.specs.Read.{Read, accepted, refused, ◌>>=◌}
+use Rattle.std.proofs.Math.ListN.{take}
+use Rattle.facts.specs.Read.{Read, accepted, refused, ◌>>=◌, with_value}
 use Rattle.facts.specs.ReadLaws.{not_refused, through, made, not_made}
 use Rattle.facts.specs.Lists.{At}
 use Rattle.facts.specs.ListLaws.{look, look_none, found}
@@ -22,8 +21,11 @@ use Rattle.taskfile.specs.Blank.{file_of}
 use Rattle.taskfile.specs.InPlace.{counts, task_at}
 use Rattle.taskfile.specs.Index.{Ready}
 use Rattle.taskfile.specs.Answers.{tallied_answer, sum_answer, passed_answer}
-use Rattle.taskfile.specs.declared.Tallied.{Tallied}
-use Rattle.taskfile.specs.declared.Tallied.TheVariants.{Sum, Refused}
+use Rattle.std.specs.Prelude.{Result, Ok, Err, IsErrAnd}
+use Rattle.facts.specs.Refusal.{number, place}
+use Rattle.facts.specs.AnswerLaws.{handed}
+use Rattle.facts.specs.declared.Refusal.{Refusal}
+use Rattle.taskfile.specs.declared.Walked.{Walked}
 
 -- what the file's refusal does to the operations
 pub ask_refused : {A : Type 0} (checked : List ℕ → List ℕ → Read (Unit {0})) (answer : Action → List ℕ → A) (f : List ℕ) (a : ℕ) (s : List ℕ) {n p : ℕ} → check_task f ≡ refused n p
@@ -36,9 +38,9 @@ unfolding check_task run_task
 run_refused f list h = rw (not_made (λ (t : Task). tt) (read_task f) h)
 
 -- what was counted together, from its parts
-pub tallied_both : (r : Tallied) → tallied_answer r ≡ both (sum_answer r) (passed_answer r)
-tallied_both (Sum sum passed) = refl
-tallied_both (Refused why) = refl
+pub tallied_both : (r : Result Walked Refusal) → tallied_answer r ≡ both (sum_answer r) (passed_answer r)
+tallied_both (Ok w) = refl
+tallied_both (Err why) = refl
 
 -- the action of a number is the one that is there
 pub action_there : {actions : List Action} {a : ℕ} {x : Action} → At actions a x → action_of actions a ≡ accepted x
@@ -47,11 +49,11 @@ action_there h = rw (look h, action_of)
 
 pub action_found : (actions : List Action) (a : ℕ) {x : Action} → action_of actions a ≡ accepted x → At actions a x
 unfolding action_of
-action_found actions a {x} h = go (get_elem? actions a) refl h
+action_found actions a {x} h = go (slice_get actions a) refl h
   where
-    go : (o : Option Action) → get_elem? actions a ≡ o → elim o as (λ o. Read Action) [ none ↦ refused 11 0 | some y ↦ accepted y ] ≡ accepted x → At actions a x
-    go none e h = absurd (not_refused h)
-    go (some y) e h = let is : y ≡ x = cc in rw is at (found actions a e)
+    go : (o : Option Action) → slice_get actions a ≡ o → elim o as (λ o. Read Action) [ None ↦ refused 11 0 | Some y ↦ accepted y ] ≡ accepted x → At actions a x
+    go None e h = absurd (not_refused h)
+    go (Some y) e h = let is : y ≡ x = cc in rw is at (found actions a e)
 
 module _ (f : List ℕ) {n count : ℕ} {row : List ℕ} (ready : Ready f n count row) where
   -- the task that is there
@@ -111,3 +113,7 @@ ask_accepted checked answer f a s h =
     let x = through (action_of t.got.actions a) t.then in
     let u = through (checked t.got.sizes s) x.then in
     record { task = t.got; reads = t.first; action = x.got; found = action_found t.got.actions a x.first; good = u.first; is = let e = u.then in cc }
+
+-- a refusal that a `?` hands on
+pub tallied_handed : (r : Result Walked Refusal) (why : Refusal) → IsErrAnd r (λ e. e ≡ why) → tallied_answer r ≡ refused (number why) (place why)
+tallied_handed r why h = ap (with_value (λ (w : Walked). record { cost = w.cost; passed = w.passed })) (handed r why h)

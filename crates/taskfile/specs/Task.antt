@@ -1,7 +1,5 @@
 -- Tasks as values: actions whose costs are decision diagrams (EVMDDs). Document 01, "The task file", "Running on a task".
-use Rattle.std.specs.Prelude.{◌≡◌, ℕ, suc, ◌+◌, ◌-◌, ◌≤◌, ◌<◌, true, false, List, [], ◌∷◌, map, eqb, length, get_or}
-use Rattle.std.proofs.Math.Option.{none, some}
-use Rattle.std.proofs.Math.ListN.{get_elem?}
+use Rattle.std.specs.Prelude.{◌≡◌, ℕ, suc, ◌+◌, ◌-◌, ◌≤◌, ◌<◌, true, false, List, [], ◌∷◌, map, eqb, length, get_or, None, Some, slice_get}
 use Rattle.facts.specs.Read.{Read, accepted, ◌>>=◌}
 use Rattle.facts.specs.Lists.{total, All, At}
 use Rattle.facts.specs.Partial.{Partial}
@@ -129,11 +127,11 @@ perform x s = attempt x.pre x.eff (cost x s) s
 
 -- what action number a does in the state s
 unfoldable pub action_move : List Action → ℕ → List ℕ → Move
-action_move actions a s = elim (get_elem? actions a) [ none ↦ blocked | some x ↦ perform x s ]
+action_move actions a s = elim (slice_get actions a) [ None ↦ blocked | Some x ↦ perform x s ]
 
 -- what action number a does in the state s, with the number of nodes that its walk passes in place of the cost
 unfoldable pub action_passes : List Action → ℕ → List ℕ → Move
-action_passes actions a s = elim (get_elem? actions a) [ none ↦ blocked | some x ↦ attempt x.pre x.eff (walk x s).passed s ]
+action_passes actions a s = elim (slice_get actions a) [ None ↦ blocked | Some x ↦ attempt x.pre x.eff (walk x s).passed s ]
 
 -- the sum of a list of any length, run from the initial state, or the refusal
 unfoldable pub task_sum : Task → List ℕ → Read ℕ

@@ -1,7 +1,5 @@
 -- Task files as bytes: read, costed and run. Document 01, "The task file", "Turned down".
-use Rattle.std.proofs.Math.Option.{none, some}
-use Rattle.std.specs.Prelude.{ℕ, zero, suc, ◌+◌, ◌*◌, ◌-◌, ◌&&◌, List, [], ◌∷◌, leb, ltb, length, get_or}
-use Rattle.std.proofs.Math.ListN.{get_elem?}
+use Rattle.std.specs.Prelude.{None, Some, ℕ, zero, suc, ◌+◌, ◌*◌, ◌-◌, ◌&&◌, List, [], ◌∷◌, leb, ltb, length, get_or, slice_get}
 use Rattle.facts.specs.Read.{Read, accepted, refused, check, with_value, ◌>>=◌}
 use Rattle.facts.specs.Lists.{up_from}
 use Rattle.facts.specs.Partial.{empty}
@@ -119,7 +117,7 @@ check_task f = with_value (λ t. tt) (read_task f)
 
 -- the action of a number, or 11 at 0
 unfoldable pub action_of : List Action → ℕ → Read Action
-action_of actions a = elim (get_elem? actions a) [ none ↦ refused 11 0 | some x ↦ accepted x ]
+action_of actions a = elim (slice_get actions a) [ None ↦ refused 11 0 | Some x ↦ accepted x ]
 
 -- What is asked about action number a with the state s, or with sets of values: 1 to 6 for the file, 11 for the number, and then what refuses the state.
 unfoldable pub ask_task : {A : Type 0} → (List ℕ → List ℕ → Read (Unit {0})) → (Action → List ℕ → A) → List ℕ → ℕ → List ℕ → Read A

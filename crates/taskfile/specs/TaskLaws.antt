@@ -1,8 +1,6 @@
 -- Laws of tasks: a plan is what a run says it is, states stay inside the domains, and what one action of an accepted file costs at most.
-use Rattle.std.specs.Prelude.{◌≡◌, refl, ◌↔◌, ℕ, ◌<◌, Bool, true, false, List, length}
+use Rattle.std.specs.Prelude.{◌≡◌, refl, ◌↔◌, ℕ, ◌<◌, Bool, true, false, List, length, Option, None, Some, slice_get}
 use Rattle.std.proofs.Common.{sym, ◌∙◌}
-use Rattle.std.proofs.Math.Option.{Option, none, some}
-use Rattle.std.proofs.Math.ListN.{get_elem?}
 use Rattle.facts.specs.Read.{accepted}
 use Rattle.facts.specs.Lists.{At}
 use Rattle.facts.specs.ListLaws.{look, found, at_length}
@@ -26,11 +24,11 @@ passes_at_lem actions s h = rw (look h, action_passes)
 -- what moves is one of the actions
 pub move_known : (actions : List Action) (a : ℕ) (s e : List ℕ) (c : ℕ) → action_move actions a s ≡ next e c → a < length actions
 unfolding action_move
-move_known actions a s e c h = go (get_elem? actions a) refl h
+move_known actions a s e c h = go (slice_get actions a) refl h
   where
-    go : (o : Option Action) → get_elem? actions a ≡ o → elim o as (λ o. Move) [ none ↦ blocked | some x ↦ perform x s ] ≡ next e c → a < length actions
-    go none q h = absurd (not_blocked h)
-    go (some x) q h = at_length (found actions a q)
+    go : (o : Option Action) → slice_get actions a ≡ o → elim o as (λ o. Move) [ None ↦ blocked | Some x ↦ perform x s ] ≡ next e c → a < length actions
+    go None q h = absurd (not_blocked h)
+    go (Some x) q h = at_length (found actions a q)
 
 -- a list of any length is a plan with the sum c exactly if its run answers c
 pub task_plan : (t : Task) (list : List ℕ) (c : ℕ) → Plan t list c ↔ (task_sum t list ≡ accepted c)

@@ -1,8 +1,6 @@
 // Task files: what they are, their limits, and what the row of an index has.
 #![tactic(auto)]
 
-use facts::Refusal;
-
 // A task file: its limits, and what the row of its index has, which the caller of the index lends: where each action starts, where its effect and its incoming weight stand, which of all nodes is its first, where each
 // node starts and which variable it tests.
 #[derive(Clone, Copy)]
@@ -62,30 +60,9 @@ impl Task {
     pub const ROW: usize = Task::TESTED + Task::MAX_NODES;
 }
 
-// Where the next field starts, and how many nodes the diagram before it has.
-#[derive(Clone, Copy)]
-pub enum Drawn {
-    Next(usize, usize),
-    Refused(Refusal),
-}
-
-// How many variables and how many actions an accepted file has.
-#[derive(Clone, Copy)]
-pub enum Counted {
-    Actions(usize, usize),
-    Refused(Refusal),
-}
-
-// What an action costs in a relaxed state.
-#[derive(Clone, Copy)]
-pub enum Costed {
-    Cost(u32),
-    Refused(Refusal),
-}
-
-// What an action costs in a state, or a list of actions in a run, and how many nodes are passed.
-#[derive(Clone, Copy)]
-pub enum Tallied {
-    Sum(u32, usize),
-    Refused(Refusal),
+// What a walk costs, or the walks of a run together, and how many nodes are passed.
+#[derive(Clone, Copy, Debug, PartialEq, Eq)]
+pub struct Walked {
+    pub cost: u32,
+    pub passed: usize,
 }

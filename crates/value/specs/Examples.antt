@@ -1,6 +1,5 @@
 -- Partial states of document 01's task P and of the file written from it, computed.
-use Rattle.std.specs.Prelude.{◌≡◌, refl, ℕ, List, [], ◌∷◌, ◌++◌, map}
-use Rattle.std.proofs.Math.Option.{Option, none, some}
+use Rattle.std.specs.Prelude.{◌≡◌, refl, ℕ, List, [], ◌∷◌, ◌++◌, map, Option, None, Some}
 use Rattle.std.specs.Int.Count.{ones}
 use Rattle.facts.specs.Bytes.{number_at}
 use Rattle.facts.specs.Lists.{up_from}
@@ -20,12 +19,12 @@ unfolding number_at standing_at partial_at ones
 in_place = tt
 
 -- P up to the end of its goal, which has variable 0 at 1
-goal : values_at (1 ∷ 2 ∷ 0 ∷ 1 ∷ 0* ++ 1 ∷ []) 3 2 ≡ some 1 ∷ none ∷ []
+goal : values_at (1 ∷ 2 ∷ 0 ∷ 1 ∷ 0* ++ 1 ∷ []) 3 2 ≡ Some 1 ∷ None ∷ []
 unfolding in_place
 goal = refl
 
 -- what the edge for value 0 needs in the written file: variable 0 at 0 and the marker, variable 2, at 1
-edge : values_at (5 ∷ 0* ++ 0 ∷ 1 ∷ []) 0 4 ≡ some 0 ∷ none ∷ some 1 ∷ none ∷ []
+edge : values_at (5 ∷ 0* ++ 0 ∷ 1 ∷ []) 0 4 ≡ Some 0 ∷ None ∷ Some 1 ∷ None ∷ []
 unfolding in_place
 edge = refl
 
@@ -38,10 +37,10 @@ edge_counts : map (lower_standing 5) (up_from 0 4) ≡ 0 ∷ 1 ∷ 1 ∷ 2 ∷ [
 edge_counts = refl
 
 -- where the file ends before a value there is none, and where it ends inside the map there are none at all
-edge_cut : values_at (5 ∷ 0* ++ 0 ∷ []) 0 4 ≡ some 0 ∷ none ∷ none ∷ none ∷ []
+edge_cut : values_at (5 ∷ 0* ++ 0 ∷ []) 0 4 ≡ Some 0 ∷ None ∷ None ∷ None ∷ []
 unfolding in_place
 edge_cut = refl
 
-map_cut : values_at (5 ∷ 0*) 1 4 ≡ none ∷ none ∷ none ∷ none ∷ []
+map_cut : values_at (5 ∷ 0*) 1 4 ≡ None ∷ None ∷ None ∷ None ∷ []
 unfolding in_place
 map_cut = refl

@@ -1,6 +1,5 @@
 -- Definitions.
 pub mod Value
-pub mod Answers
 -- Laws.
 pub mod ValueLaws
 pub mod FileLaws

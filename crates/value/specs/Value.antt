@@ -1,13 +1,12 @@
 -- The value that a partial state has for a variable, by the same recursion as holding and applying (crate `facts`, specs/Partial.antt).
-use Rattle.std.specs.Prelude.{ℕ, zero, suc, ◌+◌, ◌/◌, ◌%◌, ◌^◌, List, [], ◌∷◌}
-use Rattle.std.proofs.Math.Option.{Option, none, some}
+use Rattle.std.specs.Prelude.{ℕ, zero, suc, ◌+◌, ◌/◌, ◌%◌, ◌^◌, List, [], ◌∷◌, Option, None, Some}
 use Rattle.facts.specs.Partial.{Partial, above}
 
 -- the value of variable 0, by its bit and the values, if it has one
 abbrev pub first_value : ℕ → List ℕ → Option ℕ
-first_value zero values = none
-first_value (suc b) [] = none
-first_value (suc b) (d ∷ values) = some d
+first_value zero values = None
+first_value (suc b) [] = None
+first_value (suc b) (d ∷ values) = Some d
 
 -- the value that p has for variable v, if it has one
 abbrev pub value_of : Partial → ℕ → Option ℕ

@@ -4,17 +4,8 @@
 ghost use Rattle.std.specs.Prelude.{◌≡◌, ◌+◌, ◌≤◌, length};
 ghost use Rattle.facts.specs.Partial.{value_place, standing_at, partial_at};
 ghost use Rattle.value.specs.Value.{value_of};
-ghost use Rattle.value.specs.Answers.{valued_answer};
 
-use facts::Field;
 use facts::number::read_map;
-
-// The value that a partial state has for a variable, if it has one.
-#[derive(Clone, Copy)]
-pub enum Valued {
-    Value(u8),
-    Absent,
-}
 
 // How far past the map's first byte the value byte of a variable lies whose bit stands in the map: each lower bit is itself added to the place.
 pub fn value_place(map: u64, variable: usize) -> usize
@@ -22,40 +13,35 @@ pub fn value_place(map: u64, variable: usize) -> usize
 {
     let mut place: usize = 8;
     let mut rest = map;
-    let mut lower: usize = 0;
-    while lower < variable {
+    for _ in 0..variable {
         place += (rest % 2) as usize;
         rest /= 2;
-        lower += 1;
     }
     place
 }
 
 // The value that the partial state at an offset has for a variable.
-pub fn value_at(file: &[u8], at: usize, variable: usize) -> Valued
-    ensures { valued_answer result ≡ value_of (partial_at file.now at) variable }
+pub fn value_at(file: &[u8], at: usize, variable: usize) -> Option<u8>
+    ensures { result ≡ value_of (partial_at file.now at) variable }
 {
     match read_map(file, at) {
-        Field::Refused(_) => Valued::Absent,
-        Field::Value(map) => value_in(file, at, map, variable),
+        Err(_) => None,
+        Ok(map) => value_in(file, at, map, variable),
     }
 }
 
 // The same, where the map at the offset is known. A map has 64 bits, so that no place is looked for past them.
-fn value_in(file: &[u8], at: usize, map: u64, variable: usize) -> Valued
+fn value_in(file: &[u8], at: usize, map: u64, variable: usize) -> Option<u8>
     requires { at + 8 ≤ length file.now }
-    ensures { valued_answer result ≡ value_of (standing_at file.now map (at + 8)) variable }
+    ensures { result ≡ value_of (standing_at file.now map (at + 8)) variable }
 {
     if 64 <= variable {
-        return Valued::Absent;
+        return None;
     }
     let unset = (map >> variable) % 2 == 0;
     if unset {
-        return Valued::Absent;
+        return None;
     }
     let place = at + value_place(map, variable);
-    if file.len() <= place {
-        return Valued::Absent;
-    }
-    Valued::Value(file[place])
+    file.get(place).copied()
 }

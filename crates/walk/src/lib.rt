@@ -15,24 +15,17 @@ ghost use Rattle.taskfile.specs.WalkInPlace.{count_past, incoming_place, node_co
 
 use facts::number::{byte_at, offset_at, offset_within, word_at};
 use partial::length_at;
-use taskfile::Task;
-
-// A walk: the weights of its edges added up, and the number of nodes that it passes.
-#[derive(Clone, Copy)]
-pub struct Walked {
-    pub cost: u32,
-    pub passed: usize,
-}
+use taskfile::{Task, Walked};
 
 // An edge: the number of the node that it leads to, and what it costs.
-#[derive(Clone, Copy)]
+#[derive(Clone, Copy, Debug, PartialEq, Eq)]
 pub struct Edge {
     pub target: usize,
     pub weight: u32,
 }
 
 // What stands before the nodes of a diagram: the weight of the edge into node 1, and the number of nodes.
-#[derive(Clone, Copy)]
+#[derive(Clone, Copy, Debug, PartialEq, Eq)]
 pub struct Diagram {
     pub incoming: u32,
     pub count: usize,
@@ -119,6 +112,7 @@ fn way_up(file: &[u8], nodes: &[usize], count: usize, state: &[u8]) -> Walked
     let mut cost: u32 = 0;
     let mut passed: usize = 0;
     let mut k: usize = 1;
+    // no range: the next number is that of the edge's target
     while k <= count {
         let variable = offset_at(nodes, Task::MAX_NODES + (k - 1));
         let edge = edge_at(file, offset_at(nodes, k - 1), variable, state);
@@ -161,5 +155,5 @@ pub fn weight_inside(file: &[u8], at: usize) -> u64
     requires { at + 2 ≤ length file.now }
     ensures { (result ≡ word_at file.now at) × (result ≤ 65535) }
 {
-    (file[at] as u64) + 256 * (file[at + 1] as u64)
+    u64::from(u16::from_le_bytes([file[at], file[at + 1]]))
 }

@@ -1,4 +1,3 @@
-use Prim.Native.Nat.{◌-◌, ◌≤◌}
 use mathlib.Core.Path.{◌≡◌}
 use lib.ListN.{drop}
 use Rattle.facts.specs.Lists.{up_from}
@@ -6,8 +5,5 @@ use Rattle.facts.specs.Fields.{next_of, each}
 use Rattle.taskfile.specs.TaskFile.{read_edge, read_edges}
 use Rattle.diagram.proofs.edges_cut.Given as goal
 
-abbrev pub invariant-loop-d : goal.invariant-loop-d
-invariant-loop-d l = (l.d ≤ l.count) × (next_of (read_edges l.file l.m l.i l.count l.from) ≡ next_of (each (λ x. read_edge l.file l.m l.i) (drop l.d (up_from 0 l.count)) l.at))
-
-abbrev pub decreases-loop-d : goal.decreases-loop-d
-decreases-loop-d l = l.count - l.d
+abbrev pub invariant-loop : goal.invariant-loop
+invariant-loop l = next_of (read_edges l.file l.m l.i l.count l.from) ≡ next_of (each (λ x. read_edge l.file l.m l.i) (drop l.counter (up_from 0 l.count)) l.at)

@@ -8,4 +8,4 @@ pub returns-then-row-lt-ROW-clause-result_value : goal.returns-then-row-lt-ROW-c
 returns-then-row-lt-ROW-clause-result_value c = sym (row_short _ c.if-row-lt-ROW.true)
 
 pub returns-clause-result_value : goal.returns-clause-result_value
-returns-clause-result_value c = let i = c.index_into.ensures in i.0 ∙ sym (row_fits _ (omega (arith, c.if-row-lt-ROW.false)))
+returns-clause-result_value c = c.index_into.ensures.counted ∙ sym (row_fits _ (omega (arith, c.if-row-lt-ROW.false)))

@@ -5,8 +5,8 @@ use lib.ListN.{length}
 use Rattle.facts.specs.Partial.{apply, standing_at}
 use Rattle.partial.proofs.values_set.Given as goal
 
-abbrev pub invariant-loop-rest : goal.invariant-loop-rest
-invariant-loop-rest l = (l.at ≤ length l.file) × (l.at + ones l.rest ≡ l.from + ones l.map) × (length l.state ≡ length l.initial.state) × (apply (standing_at l.file l.map l.from) l.initial.state ≡ apply (standing_at l.file l.rest l.at) l.state)
-
-abbrev pub decreases-loop-rest : goal.decreases-loop-rest
-decreases-loop-rest l = l.rest
+abbrev pub invariant-loop-v : goal.invariant-loop-v
+invariant-loop-v l =
+    (goal.iterator-loop-v).can_next l.v-iterator × (goal.iterator-loop-v).is_finite l.v-iterator
+    × (l.at ≤ length l.file) × (l.at + ones l.v-iterator.rest ≡ l.from + ones l.map) × (length l.state ≡ length l.initial.state)
+    × (apply (standing_at l.file l.map l.from) l.initial.state ≡ apply (standing_at l.file l.v-iterator.rest l.at) l.state)

@@ -1,39 +1,35 @@
--- `probe::run` meets its contract: the file, the limit, and then the run. Assumes nothing.
+-- `probe::run` meets its contract: the file, the limit, and then the run.
 use Prim.Native.Nat.{◌≤◌}
-use mathlib.Core.Path.{◌≡◌, sym, ap, ◌∙◌}
+use mathlib.Core.Path.{sym, ◌∙◌}
 use lib.ListN.{length}
 use lib.Seq.{length-take-le}
-use Rattle.facts.specs.Read.{accepted}
-use Rattle.probefile.specs.Answers.{indexed_answer}
-use Rattle.probefile.specs.InPlace.{probe_at}
+use Rattle.facts.specs.AnswerLaws.{handed}
 use Rattle.probefile.specs.IndexLaws.{starts, run_refused, run_long, run_fits}
-use borrow.Author.Rules.{rules}
 use native.Mathlib.Omega.{arith}
 use Rattle.probe.proofs.run.Goals as goal
-use Rattle.probe.proofs.run.Goals.{In-Steps}
+use Rattle.probe.proofs.run.Goals.{In_ok-variables}
 
-file_is : (c : goal.In-Steps) → probe_at c.args.file.now ≡ accepted (c.in-Steps.variables, c.in-Steps.steps)
-file_is c = sym c.index.ensures.0 ∙ ap indexed_answer c.in-Steps.is
+few : (c : goal.In_ok-variables) → c.in_ok-variables.steps ≤ length c.index.new.offsets
+few c = omega (arith, (starts _ (sym c.in_ok-variables.ensures.counted)).steps, c.index.auto.offsets)
 
-few : (c : goal.In-Steps) → c.in-Steps.steps ≤ length c.index.new.offsets
-few c = omega (arith, (starts _ (file_is c)).steps, c.index.auto.offsets)
+pub returns-in_err-variables : goal.returns-in_err-variables
+returns-in_err-variables c = handed _ _ c.from_residual.ensures.1 ∙ sym (run_refused _ _ (sym c.in_err-variables.ensures.counted))
 
 pub returns-then-long : goal.returns-then-long
-returns-then-long c = sym (run_long _ (file_is (goal.at.returns-then-long c).In-Steps) _ c.if-long.true)
+returns-then-long c = sym (run_long _ (sym c.in_ok-variables.ensures.counted) _ c.if-long.true)
 
 pub slice_bounds-offsets-end : goal.slice_bounds-offsets-end
-slice_bounds-offsets-end c = few (goal.at.slice_bounds-offsets-end c).In-Steps
+slice_bounds-offsets-end c = few (goal.at.slice_bounds-offsets-end c).In_ok-variables
 
 pub slice_bounds-run_from_start-end : goal.slice_bounds-run_from_start-end
-slice_bounds-run_from_start-end c = sym (length-take-le _ _ (few (goal.at.slice_bounds-run_from_start-end c).In-Steps))
+slice_bounds-run_from_start-end c = sym (length-take-le _ _ (few (goal.at.slice_bounds-run_from_start-end c).In_ok-variables))
 
 pub run_from_start-requires : goal.run_from_start-requires
 run_from_start-requires c =
-    let s = starts _ (file_is (goal.at.run_from_start-requires c).In-Steps) in
+    let s = starts _ (sym c.in_ok-variables.ensures.counted) in
     (c.if-long.false, s.variables, s.fits)
 
-pub returns-in-Refused : goal.returns-in-Refused
-returns-in-Refused c = sym (run_refused _ _ (sym c.index.ensures.0 ∙ ap indexed_answer c.in-Refused.is))
-
-pub returns-else-long : goal.returns-else-long
-returns-else-long c = c.run_from_start.ensures ∙ sym (run_fits _ (file_is (goal.at.returns-else-long c).In-Steps) c.index.new.offsets c.index.ensures.1 (few (goal.at.returns-else-long c).In-Steps) _ c.if-long.false)
+pub returns : goal.returns
+returns c =
+    let known = c.in_ok-variables.ensures in
+    c.run_from_start.ensures ∙ sym (run_fits _ (sym known.counted) c.index.new.offsets known.located (few (goal.at.returns c).In_ok-variables) _ c.if-long.false)

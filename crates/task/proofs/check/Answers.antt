@@ -1,11 +1,11 @@
--- `task::check` meets its contract: the answer of the pass, without what it counted. Assumes nothing.
-use mathlib.Core.Path.{sym, ap, ◌∙◌}
-use Rattle.taskfile.specs.Answers.{counted_answer}
+-- `task::check` meets its contract: the answer of the pass, without what it counted.
+use mathlib.Core.Path.{sym, ◌∙◌}
+use Rattle.facts.specs.AnswerLaws.{handed}
 use Rattle.taskfile.specs.TaskIndexLaws.{index_refused, index_accepted}
 use Rattle.task.proofs.check.Goals as goal
 
-pub returns-in-Refused : goal.returns-in-Refused
-returns-in-Refused c = sym (index_refused _ (sym c.index_in.ensures.result_value ∙ ap counted_answer c.in-Refused.is))
+pub returns-in_err-index_in : goal.returns-in_err-index_in
+returns-in_err-index_in c = handed _ _ c.from_residual.ensures.1 ∙ sym (index_refused _ (sym c.in_err-index_in.ensures.result_value))
 
-pub returns-in-Actions : goal.returns-in-Actions
-returns-in-Actions c = sym (index_accepted _ (sym c.index_in.ensures.result_value ∙ ap counted_answer c.in-Actions.is))
+pub returns : goal.returns
+returns c = sym (index_accepted _ (sym c.in_ok-index_in.ensures.result_value))

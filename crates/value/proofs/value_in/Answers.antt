@@ -1,8 +1,10 @@
 -- `value::value_in` meets its contract: no bit stands from 64 on, a bit that does not stand has no value, and the file may end before one. Assumes nothing.
-use mathlib.Core.Path.{sym}
+use mathlib.Core.Path.{sym, ◌∙◌}
+use Rattle.std.specs.Prelude.{◌+◌}
+use Rattle.facts.specs.AnswerLaws.{copied_at}
 use native.Mathlib.Omega.{arith}
 use Rattle.value.specs.ValueLaws.{lower_most, place_counts}
-use Rattle.value.specs.FileLaws.{value_clear, value_beyond, value_there, value_cut}
+use Rattle.value.specs.FileLaws.{value_clear, value_beyond, standing}
 use Rattle.value.proofs.value_in.Goals as goal
 
 pub returns-then-variable-ge64 : goal.returns-then-variable-ge64
@@ -14,8 +16,9 @@ returns-then-unset c = sym (value_clear c.args.file.now c.args.map c.args.at c.a
 pub overflow_add-place : goal.overflow_add-place
 overflow_add-place c = omega (arith, c.value_place.ensures, place_counts c.args.map c.args.variable, lower_most c.args.map c.args.variable c.ranges.map.fits, c.requires)
 
-pub returns-then-file-place : goal.returns-then-file-place
-returns-then-file-place c = sym (value_cut c.args.file.now c.args.map c.args.at c.args.variable (omega (arith, c.if-unset.false)) c.value_place.ensures c.if-file-place.true)
-
 pub returns : goal.returns
-returns c = sym (value_there c.args.file.now c.args.map c.args.at c.args.variable (omega (arith, c.if-unset.false)) c.value_place.ensures (omega arith))
+returns c =
+    let e = c.get.ensures.lookup in
+    c.copied.ensures
+    ∙ copied_at c.args.file.now (c.args.at + c.value_place.result) c.get.result e.0 e.1
+    ∙ sym (standing c.args.file.now c.args.map c.args.at c.args.variable (omega (arith, c.if-unset.false)) c.value_place.ensures)

@@ -3,8 +3,5 @@ use mathlib.Core.Path.{◌≡◌}
 use Rattle.value.specs.Value.{lower_standing}
 use Rattle.value.proofs.value_place.Given as goal
 
-abbrev pub invariant-loop-lower : goal.invariant-loop-lower
-invariant-loop-lower l = l.place + lower_standing l.rest (l.variable - l.lower) ≡ 8 + lower_standing l.map l.variable
-
-abbrev pub decreases-loop-lower : goal.decreases-loop-lower
-decreases-loop-lower l = l.variable - l.lower
+abbrev pub invariant-loop : goal.invariant-loop
+invariant-loop l = l.place + lower_standing l.rest (l.variable - l.counter) ≡ 8 + lower_standing l.map l.variable

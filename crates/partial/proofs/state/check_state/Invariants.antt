@@ -1,4 +1,3 @@
-use Prim.Native.Nat.{◌-◌, ◌≤◌}
 use mathlib.Core.Path.{◌≡◌}
 use lib.Dec.{ltb}
 use lib.ListN.{length, drop}
@@ -6,7 +5,4 @@ use Rattle.facts.specs.State.{check_values, check_state}
 use Rattle.partial.proofs.state.check_state.Given as goal
 
 abbrev pub invariant-loop-v : goal.invariant-loop-v
-invariant-loop-v l = (l.v ≤ length l.sizes) × (length l.state ≡ length l.sizes) × (check_state l.sizes l.state ≡ check_values (λ d x. ltb x d) l.v (drop l.v l.sizes) (drop l.v l.state))
-
-abbrev pub decreases-loop-v : goal.decreases-loop-v
-decreases-loop-v l = length l.sizes - l.v
+invariant-loop-v l = (length l.state ≡ length l.sizes) × (check_state l.sizes l.state ≡ check_values (λ d x. ltb x d) l.v (drop l.v l.sizes) (drop l.v l.state))

@@ -1,12 +1,10 @@
--- `probefile::step_index::count_steps` meets its contract: the head, and then the step count. Assumes nothing.
-use mathlib.Core.Path.{sym, ap, ◌∙◌}
-use borrow.Author.Rules.{rules}
-use Rattle.facts.specs.Answers.{field_answer, headed_answer}
-use Rattle.probefile.specs.IndexLaws.{probe_no_head, probe_no_count}
+-- `probefile::step_index::count_steps` meets its contract: the head, and then the step count.
+use mathlib.Core.Path.{sym}
+use Rattle.probefile.specs.IndexLaws.{probe_no_head, probe_no_count, counted_none}
 use Rattle.probefile.proofs.step_index.count_steps.Goals as goal
 
-pub returns-in-Refused : goal.returns-in-Refused
-returns-in-Refused c = probe_no_head _ (sym c.read_head.ensures ∙ ap headed_answer c.in-Refused.is)
+pub returns-in_err-variables : goal.returns-in_err-variables
+returns-in_err-variables c = counted_none _ _ _ c.from_residual.ensures.1 (probe_no_head _ (sym c.in_err-variables.ensures))
 
-pub returns-in-Refused-step_count : goal.returns-in-Refused-step_count
-returns-in-Refused-step_count c = probe_no_count _ (sym c.read_head.ensures ∙ ap headed_answer c.in-Head.is) (sym c.step_count.ensures ∙ ap field_answer c.in-Refused-step_count.is)
+pub returns-in_err-steps : goal.returns-in_err-steps
+returns-in_err-steps c = counted_none _ _ _ c.from_residual-in_err-steps.ensures.1 (probe_no_count _ (sym c.in_ok-variables.ensures) (sym c.in_err-steps.ensures))

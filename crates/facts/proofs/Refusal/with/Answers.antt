@@ -1,8 +1,8 @@
--- `facts::refusal_with` meets its contract: one number after the other. Assumes nothing.
+-- `facts::Refusal::with` meets its contract: one number after the other. Assumes nothing.
 use mathlib.Core.Path.{sym}
 use borrow.Author.Tests.{ne_eqb}
 use Rattle.facts.specs.RefusalLaws.{with_key, with_none}
-use Rattle.facts.proofs.refusal_with.Goals as goal
+use Rattle.facts.proofs.Refusal.with.Goals as goal
 
 pub returns-in-1 : goal.returns-in-1
 returns-in-1 c = with_key _ c.in-1.is
