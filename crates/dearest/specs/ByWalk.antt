@@ -1,6 +1,5 @@
 -- The greatest cost of an action by one pass over the nodes of its diagram, from the last to the first, and the first state that has it by one walk from node 1.
-use Rattle.std.specs.Prelude.{ℕ, suc, ◌+◌, ◌-◌, true, false, List, [], ◌∷◌, eqb, get_or}
-use Rattle.std.proofs.Math.Option.{none, some}
+use Rattle.std.specs.Prelude.{ℕ, suc, ◌+◌, ◌-◌, true, false, List, [], ◌∷◌, eqb, get_or, None, Some}
 use Rattle.facts.specs.Lists.{up_from, find}
 use Rattle.taskfile.specs.Task.{Node, Action, level}
 use Rattle.relaxation.specs.Pass.{edge_for, Pass, by_edge, least_from}
@@ -20,7 +19,7 @@ greatest_by_pass sizes x = x.incoming + greatest_from sizes x.nodes 1
 
 -- the first of so many values that costs m
 abbrev pub first_costing : (ℕ → ℕ) → ℕ → ℕ → ℕ
-first_costing costOf m size = elim (find (λ d. eqb (costOf d) m) (up_from 0 size)) [ none ↦ 0 | some d ↦ d ]
+first_costing costOf m size = elim (find (λ d. eqb (costOf d) m) (up_from 0 size)) [ None ↦ 0 | Some d ↦ d ]
 
 -- A walk through the nodes of a diagram over variables with these domain sizes.
 module _ (sizes : List ℕ) (nodes : List Node) where

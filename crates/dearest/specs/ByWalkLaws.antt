@@ -1,8 +1,7 @@
 -- The pass and the walk find what is asked for: the state that the walk gives costs the greatest, no state costs more, and it is the smallest of those that cost as much. By induction over the variables.
-use Rattle.std.specs.Prelude.{◌≡◌, refl, ◌⊎◌, ℕ, zero, suc, ◌+◌, ◌-◌, ◌≤◌, ◌<◌, Bool, true, false, List, [], ◌∷◌, ◌++◌, map, eqb, length, get_or, drop}
+use Rattle.std.specs.Prelude.{◌≡◌, refl, ◌⊎◌, ℕ, zero, suc, ◌+◌, ◌-◌, ◌≤◌, ◌<◌, Bool, true, false, List, [], ◌∷◌, ◌++◌, map, eqb, length, get_or, drop, Some}
 use Rattle.std.proofs.Common.{sym, ap, ◌∙◌, subst, inl, inr, eq-or-lt_of_le, arith, length-drop, length-append, drop-cons, eqb-true}
 use Rattle.std.proofs.Math.Decide.{dec_le}
-use Rattle.std.proofs.Math.Option.{some}
 use Rattle.std.proofs.Math.Seq.{append_snoc}
 use Rattle.std.proofs.lemmas.List.{get_or_at}
 use Rattle.std.proofs.lemmas.Bool.{eqb-false}
@@ -48,7 +47,7 @@ module _ (costOf : ℕ → ℕ) (m : ℕ) where
 
   -- the first from k on
   record FirstFrom (k n d : ℕ) : Type 0 where
-    is : find costs (up_from k n) ≡ some d
+    is : find costs (up_from k n) ≡ Some d
     from : k ≤ d
     below : d < k + n
     cost_is : costOf d ≡ m

@@ -1,6 +1,5 @@
 -- The dearest state of an action, over all states of its task. Document 02, W11.
-use Rattle.std.specs.Prelude.{◌≡◌, ◌⊎◌, ℕ, ◌≤◌, ◌<◌, List, [], ◌∷◌, map, eqb}
-use Rattle.std.proofs.Math.Option.{none, some}
+use Rattle.std.specs.Prelude.{◌≡◌, ◌⊎◌, ℕ, ◌≤◌, ◌<◌, List, [], ◌∷◌, map, eqb, None, Some}
 use Rattle.facts.specs.Lists.{up_from, find}
 use Rattle.facts.specs.State.{Inside}
 use Rattle.facts.specs.Read.{Read, accepted, ◌>>=◌}
@@ -19,7 +18,7 @@ greatest_cost sizes x = greatest (map (cost x) (all_states sizes))
 
 -- ".. and the state that has it. Among several, the one smallest when read from variable 0 is given": the first that has it.
 unfoldable pub dearest_state : List ℕ → Action → List ℕ
-dearest_state sizes x = elim (find (λ s. eqb (cost x s) (greatest_cost sizes x)) (all_states sizes)) [ none ↦ [] | some s ↦ s ]
+dearest_state sizes x = elim (find (λ s. eqb (cost x s) (greatest_cost sizes x)) (all_states sizes)) [ None ↦ [] | Some s ↦ s ]
 
 -- The operation on action number a of a file, the state and its cost: 1 to 6 for the file, 11 for the number. Answer and buffer are those of every operation that answers a number and writes, `answer_in` and
 -- `buffer_in`: 7 comes last, with the number of variables.

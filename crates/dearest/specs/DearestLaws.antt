@@ -1,10 +1,9 @@
 -- The state and the cost that are given are those that are asked for, and no others are; one pass and one walk find them.
-use Rattle.std.specs.Prelude.{◌≡◌, ◌⊎◌, ℕ, ◌≤◌, ◌<◌}
+use Rattle.std.specs.Prelude.{◌≡◌, ◌⊎◌, ℕ, ◌≤◌, ◌<◌, Option, None, Some}
 use Rattle.std.proofs.Math.Path.{refl, sym, ap}
 use Rattle.std.proofs.Common.{ap₂, ◌∙◌, inl, inr, eq-eqb, eqb-true}
 use Rattle.std.proofs.Math.Decide.{dec_lt}
 use native.Mathlib.Omega.{arith}
-use Rattle.std.proofs.Math.Option.{Option, none, some}
 use mathlib.Core.List.{List, [], ◌∷◌}
 use Rattle.std.proofs.Math.Dec.{eqb}
 use Rattle.facts.specs.Lists.{All}
@@ -57,7 +56,7 @@ module _ {sizes : List ℕ} {x : Action} (wf : WfAction sizes x) (some_value : A
   dearest_by_walk_lem =
       let g = greatest_by_pass_lem in
       let found = find_smallest (λ s. eqb (cost x s) (greatest_cost sizes x)) (eq-eqb _ _ (walk_costs ∙ sym g)) sizes walked.inside (λ s i t. walk_smallest s i (eqb-true _ _ t ∙ g)) in
-      ap (λ (o : Option (List ℕ)). elim o as (λ o. List ℕ) [ none ↦ [] | some s ↦ s ]) found
+      ap (λ (o : Option (List ℕ)). elim o as (λ o. List ℕ) [ None ↦ [] | Some s ↦ s ]) found
 
 -- ---- nothing else is so
 

@@ -1,9 +1,8 @@
 -- Laws of the dearest state in place: the table is filled from the last node to the first, and each turn of the walk is that of the nodes as values.
-use Rattle.std.specs.Prelude.{◌≡◌, Bool, true, false, List, [], ◌∷◌, ◌++◌, map, eqb, length, get_or, drop, take, set, replicate}
+use Rattle.std.specs.Prelude.{◌≡◌, Bool, true, false, List, [], ◌∷◌, ◌++◌, map, eqb, length, get_or, drop, take, set, replicate, Option, None, Some}
 use Rattle.std.proofs.Math.Path.{refl, ap₂}
 use Rattle.std.proofs.Common.{sym, ap, ◌∙◌, arith, append-nil, drop_of_length-le, drop-cons, take-suc-set, take_all, eq-eqb, ne_eqb}
 use Prim.Native.Nat.{ℕ, suc, ◌+◌, ◌-◌, ◌*◌, ◌≤◌, ◌<◌, max}
-use Rattle.std.proofs.Math.Option.{Option, none, some}
 use Rattle.std.proofs.Math.Seq.{append_snoc}
 use Rattle.facts.specs.Lists.{up_from, find, At, here, there}
 use Rattle.facts.specs.ListLaws.{all_at}
@@ -66,22 +65,22 @@ module _ (costOf : ℕ → ℕ) where
 
     pub seeking_found : {size d cost : ℕ} → Seeking size d → d < size → cost ≡ costOf d → cost ≡ m → d ≡ first_costing costOf m size
     seeking_found {size} {d} s l is same =
-        let at : find (λ d. eqb (costOf d) m) (up_from 0 size) ≡ some d = s.left ∙ ap (find (λ d. eqb (costOf d) m)) (from_next size d l) ∙ rw (eq-eqb (costOf d) m (sym is ∙ same), find) in
+        let at : find (λ d. eqb (costOf d) m) (up_from 0 size) ≡ Some d = s.left ∙ ap (find (λ d. eqb (costOf d) m)) (from_next size d l) ∙ rw (eq-eqb (costOf d) m (sym is ∙ same), find) in
         rw (at, first_costing)
 
     pub seeking_none : {size d : ℕ} → Seeking size d → size ≤ d → 0 ≡ first_costing costOf m size
     seeking_none {size} {d} s l =
         let z : size - d ≡ 0 = omega arith in
-        let at : find (λ d. eqb (costOf d) m) (up_from 0 size) ≡ none = s.left ∙ ap (λ (n : ℕ). find (λ d. eqb (costOf d) m) (up_from d n)) z in
+        let at : find (λ d. eqb (costOf d) m) (up_from 0 size) ≡ None = s.left ∙ ap (λ (n : ℕ). find (λ d. eqb (costOf d) m) (up_from d n)) z in
         rw (at, first_costing)
 
 -- it depends on what the values cost alone
 first_agree : (f g : ℕ → ℕ) (m n size : ℕ) → m ≡ n → ((d : ℕ) → d < size → f d ≡ g d) → first_costing f m size ≡ first_costing g n size
-first_agree f g m n size e h = ap (λ (o : Option ℕ). elim o as (λ o. ℕ) [ none ↦ 0 | some d ↦ d ]) (go (up_from 0 size) (λ k d a. h d (all_at (λ (d : ℕ). d < size) (up_from_below 0 size size (omega arith)) a)))
+first_agree f g m n size e h = ap (λ (o : Option ℕ). elim o as (λ o. ℕ) [ None ↦ 0 | Some d ↦ d ]) (go (up_from 0 size) (λ k d a. h d (all_at (λ (d : ℕ). d < size) (up_from_below 0 size size (omega arith)) a)))
   where
     go : (ds : List ℕ) → ((k d : ℕ) → At ds k d → f d ≡ g d) → find (λ d. eqb (f d) m) ds ≡ find (λ d. eqb (g d) n) ds
     go [] h = refl
-    go (d ∷ ds) h = ap₂ (λ (b : Bool) (o : Option ℕ). elim b as (λ b. Option ℕ) [ true ↦ some d | false ↦ o ]) (ap₂ eqb (h 0 d here) e) (go ds (λ k d a. h (suc k) d (there a)))
+    go (d ∷ ds) h = ap₂ (λ (b : Bool) (o : Option ℕ). elim b as (λ b. Option ℕ) [ true ↦ Some d | false ↦ o ]) (ap₂ eqb (h 0 d here) e) (go ds (λ k d a. h (suc k) d (there a)))
 
 -- ---- the nodes of an action in place
 

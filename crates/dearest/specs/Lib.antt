@@ -2,7 +2,6 @@
 pub mod Dearest
 pub mod ByWalk
 pub mod InPlace
-pub mod Answers
 -- The known cases, computed.
 pub mod Examples
 -- Laws.

@@ -1,7 +1,6 @@
 -- Laws of all states of a task: they are those inside the domains, in their order when read from variable 0.
-use Rattle.std.specs.Prelude.{◌≡◌, refl, ◌⊎◌, ℕ, zero, suc, ◌≤◌, ◌<◌, Bool, true, false, List, [], ◌∷◌, ◌++◌, map}
+use Rattle.std.specs.Prelude.{◌≡◌, refl, ◌⊎◌, ℕ, zero, suc, ◌≤◌, ◌<◌, Bool, true, false, List, [], ◌∷◌, ◌++◌, map, Some}
 use Rattle.std.proofs.Common.{inl, inr, arith}
-use Rattle.std.proofs.Math.Option.{some}
 use Rattle.facts.specs.Lists.{up_from, find, All, At, here, there}
 use Rattle.facts.specs.ListLaws.{at_none, at_up_from, all_at}
 use Rattle.facts.specs.State.{Inside}
@@ -78,7 +77,7 @@ all_ordered (size ∷ sizes) = ordered_prefixed 0 size (all_states sizes) (all_o
 -- ---- the first that passes a test is the smallest that does
 
 module _ (test : List ℕ → Bool) {z : List ℕ} (passes : test z ≡ true) where
-  find_ordered : (xs : List (List ℕ)) {k : ℕ} → Ordered xs → At xs k z → ((k : ℕ) (s : List ℕ) → At xs k s → test s ≡ true → (z ≡ s) ⊎ Smaller z s) → find test xs ≡ some z
+  find_ordered : (xs : List (List ℕ)) {k : ℕ} → Ordered xs → At xs k z → ((k : ℕ) (s : List ℕ) → At xs k s → test s ≡ true → (z ≡ s) ⊎ Smaller z s) → find test xs ≡ Some z
   find_ordered [] o a least = absurd (at_none a)
   find_ordered (s ∷ xs) o here least = rw (passes, find)
   find_ordered (s ∷ xs) o (there a) least = rw (fails (test s) refl, find) (find_ordered xs o.1 a (λ k s b. least (suc k) s (there b)))
@@ -90,5 +89,5 @@ module _ (test : List ℕ → Bool) {z : List ℕ} (passes : test z ≡ true) wh
           let before = all_at (Smaller s) o.0 a in
           absurd (elim (least 0 s here e) [ inl same ↦ smaller_once s s (rw same at before) (rw same at before) | inr l ↦ smaller_once s z before l ])
 
-  pub find_smallest : (sizes : List ℕ) → Inside sizes z → ((s : List ℕ) → Inside sizes s → test s ≡ true → (z ≡ s) ⊎ Smaller z s) → find test (all_states sizes) ≡ some z
+  pub find_smallest : (sizes : List ℕ) → Inside sizes z → ((s : List ℕ) → Inside sizes s → test s ≡ true → (z ≡ s) ⊎ Smaller z s) → find test (all_states sizes) ≡ Some z
   find_smallest sizes i least = find_ordered (all_states sizes) (all_ordered sizes) (inside_all sizes z i).1 (λ k s a. least s (all_inside sizes a))

@@ -1,5 +1,5 @@
 -- Laws of the array of facts: one store, and how the numbers of a state come to stand in it.
-use Rattle.std.specs.Prelude.{ℕ, zero, suc, ◌+◌, ◌≤◌, ◌<◌, ◌≡◌, refl, ◌≢◌, List, [], ◌∷◌, length, get_or, take, set, replicate}
+use Rattle.std.specs.Prelude.{ℕ, zero, suc, ◌+◌, ◌≤◌, ◌<◌, min, ◌≡◌, refl, ◌≢◌, List, [], ◌∷◌, length, get_or, take, set, replicate}
 use Rattle.std.proofs.Common.{sym, ap, ◌∙◌, add-one, arith, length-set, get_or-set_same, get_or-set_other, eq-eqb, ne_eqb}
 use Rattle.std.proofs.Math.Decide.{ℕ_discrete}
 use Rattle.std.proofs.lemmas.List.{length-replicate, get_or-replicate}
@@ -47,9 +47,11 @@ start_other (x ∷ s) zero (suc w) d l other = refl
 start_other (x ∷ s) (suc v) zero d l other = refl
 start_other (x ∷ s) (suc v) (suc w) d l other = start_other s v w d (omega arith) (λ e. other (ap suc e))
 
-pub start_below : (s : List ℕ) (n v d : ℕ) → v < n → start_number (take n s) v d ≡ start_number s v d
-start_below s zero v d l = absurd (omega arith)
+-- those of a variable, if it is read, or all are
+pub start_below : (s : List ℕ) (n v d : ℕ) → min (length s) (suc v) ≤ n → start_number (take n s) v d ≡ start_number s v d
+start_below [] zero v d l = refl
 start_below [] (suc n) v d l = refl
+start_below (x ∷ s) zero v d l = absurd (omega arith)
 start_below (x ∷ s) (suc n) zero d l = refl
 start_below (x ∷ s) (suc n) (suc v) d l = start_below s n v d (omega arith)
 
@@ -76,6 +78,6 @@ module _ {numbers : List Est} (s : List ℕ) (v : ℕ) (h : HasNumbers numbers (
   pub start_passed : v < length s → most_values ≤ get_or s v 0 → HasNumbers numbers (start_number (take (v + 1) s))
   start_passed l big = rw (add-one v) (numbers_agree h (λ w d w-lt d-lt. start_other s v w d l (λ p q. omega arith)))
 
-  -- there is no room for the next variable
-  pub start_full : most_variables ≤ v → HasNumbers numbers (start_number s)
+  -- all variables are read, or there is no room for the next
+  pub start_full : min (length s) most_variables ≤ v → HasNumbers numbers (start_number s)
   start_full l = numbers_agree h (λ w d w-lt d-lt. start_below s v w d (omega arith))

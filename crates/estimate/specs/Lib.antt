@@ -5,7 +5,6 @@ pub mod Rounds
 pub mod Additive
 pub mod Ranks
 pub mod InTurn
-pub mod Answers
 -- The additive heuristic, computed.
 pub mod AdditiveExamples
 -- Laws.

@@ -136,6 +136,15 @@ or_first b t e = ap (λ x. x || b) t ∙ sym (e ∙ t)
 pub or_second : {a b c : Bool} → a ≡ false → c ≡ b → (a || b) ≡ c
 or_second {b = b} f e = ap (λ x. x || b) f ∙ sym e
 
+-- or as code keeps it that was told one after the other: true where the later is true, and else what it was
+pub or_set : {b c : Bool} (a : Bool) → b ≡ true → c ≡ true → (a || b) ≡ c
+or_set true t e = sym e
+or_set false t e = t ∙ sym e
+
+pub or_kept : {b c : Bool} (a : Bool) → b ≡ false → c ≡ a → (a || b) ≡ c
+or_kept true f e = sym e
+or_kept false f e = f ∙ sym e
+
 -- ---- the start
 
 -- ranks that are all never's are fresh
@@ -199,7 +208,7 @@ module _ {ranks : List ℕ} (of : ℕ → ℕ → Number) (s : List ℕ) (v : �
   })
 
   -- all variables for which there is room are read
-  pub started_full : most_variables ≤ v → HasRanks ranks (started_over of s)
+  pub started_full : min (length s) most_variables ≤ v → HasRanks ranks (started_over of s)
   unfolding started_over
   started_full l = record { at = λ w d r. h.at w d r ∙ ap (lesser (of w d)) (start_below s v w d (omega (arith, r.variable))) }
 

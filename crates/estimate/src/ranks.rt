@@ -1,10 +1,10 @@
 // The numbers of all facts, lent as ranks: a number's rank is how many numbers are less than it. Ranks stand at variable times 66 plus value, as in
 // the array of `start`. Past the end of a slice nothing is read or set.
-ghost use Rattle.std.specs.Prelude.{◌≡◌, min};
+ghost use Rattle.std.specs.Prelude.{◌≡◌};
 ghost use Rattle.estimate.specs.Number.{number, sum, ranked};
 ghost use Rattle.estimate.specs.Ranks.{rank_number};
 
-use crate::{Est, LARGEST};
+use crate::Est;
 use probefile::Probe;
 
 // The ranks of over and of never.
@@ -22,7 +22,7 @@ pub fn rank(e: Est) -> u64
     match e {
         Est::Never => NEVER,
         Est::Over => OVER,
-        Est::Exact(x) => x as u64,
+        Est::Exact(x) => u64::from(x),
     }
 }
 
@@ -30,20 +30,11 @@ pub fn rank(e: Est) -> u64
 pub fn ranked(n: u64) -> Est
     ensures { number result ≡ ranked n }
 {
-    if n <= LARGEST as u64 {
-        return Est::Exact(n as u32);
+    match u32::try_from(n) {
+        Ok(x) => Est::Exact(x),
+        Err(_) if n == OVER => Est::Over,
+        Err(_) => Est::Never,
     }
-    if n == OVER {
-        return Est::Over;
-    }
-    Est::Never
-}
-
-// The rank of the lesser number.
-pub fn lesser_rank(a: u64, b: u64) -> u64
-    ensures { result ≡ min a b }
-{
-    if b < a { b } else { a }
 }
 
 // The rank of the sum of two numbers.
@@ -56,7 +47,7 @@ pub fn sum_rank(a: u64, b: u64) -> u64
     if NEVER <= b {
         return NEVER;
     }
-    lesser_rank(a + b, OVER)
+    (a + b).min(OVER)
 }
 
 // The rank of the number of the fact that variable v has the value d.
@@ -69,9 +60,8 @@ pub fn rank_of(ranks: &[u64], v: usize, d: usize) -> u64
     if Probe::MAX_VALUES <= d {
         return NEVER;
     }
-    let i = v * Probe::MAX_VALUES + d;
-    if ranks.len() <= i {
-        return NEVER;
-    }
-    ranks[i]
+    ranks
+        .get(v * Probe::MAX_VALUES + d)
+        .copied()
+        .unwrap_or(NEVER)
 }

@@ -1,9 +1,7 @@
 -- Laws of the loop that narrows: where it stands at a variable, and the ways in which it goes on.
-use Rattle.std.specs.Prelude.{◌≡◌, refl, Bool, List, ℕ, zero, suc, ◌+◌, ◌/◌, ◌%◌, ◌^◌, ◌≤◌, ◌<◌, length, get_or, set, drop}
+use Rattle.std.specs.Prelude.{◌≡◌, refl, Bool, List, ℕ, zero, suc, ◌+◌, ◌/◌, ◌%◌, ◌^◌, ◌≤◌, ◌<◌, length, get_or, set, drop, Option, None, Some, slice_get}
 use Rattle.std.proofs.Common.{sym, ap, ap₂, ◌∙◌, inl, inr, eq-or-lt_of_le, add-one, arith, length-set, shr-shr, get_or-set_same, get_or-set_other, ext_get_or}
-use Rattle.std.proofs.Math.Option.{Option, none, some}
 use Rattle.std.specs.Int.Count.{ones}
-use Rattle.std.proofs.Math.ListN.{get_elem?}
 use Rattle.facts.specs.Read.{accepted, refused}
 use Rattle.facts.specs.Lists.{up_from}
 use Rattle.facts.specs.ListLaws.{look, look_none, at_get_d, length_up_from, at_up_from}
@@ -90,8 +88,8 @@ reading_start m from = record { bits = omega arith; values = omega arith }
 
 module _ {m from v rest at : ℕ} (r : Reading m from v rest at) where
   -- what is found is the variable's value
-  pub reading_value : (f : List ℕ) → if_stands (rest % 2) (get_elem? f at) ≡ value_of (standing_at f m from) v
-  reading_value f = ap₂ (λ (b k : ℕ). if_stands (b % 2) (get_elem? f k)) r.bits r.values ∙ sym (value_from f m from v)
+  pub reading_value : (f : List ℕ) → if_stands (rest % 2) (slice_get f at) ≡ value_of (standing_at f m from) v
+  reading_value f = ap₂ (λ (b k : ℕ). if_stands (b % 2) (slice_get f k)) r.bits r.values ∙ sym (value_from f m from v)
 
   pub reading_next : Reading m from (v + 1) (rest / 2) (at + rest % 2)
   reading_next = record {
@@ -101,19 +99,23 @@ module _ {m from v rest at : ℕ} (r : Reading m from v rest at) where
 
 -- ---- a value, by the lowest bit that is left
 
-pub next_clear : {b : ℕ} (o : Option ℕ) → b ≡ 0 → none ≡ if_stands b o
+pub next_clear : {b : ℕ} (o : Option ℕ) → b ≡ 0 → None ≡ if_stands b o
 next_clear o e = sym (ap (λ (b : ℕ). if_stands b o) e)
 
-if_none : (b : ℕ) → none ≡ if_stands b none
+if_none : (b : ℕ) → None ≡ if_stands b None
 if_none zero = refl
 if_none (suc b) = refl
 
-pub next_cut : (b : ℕ) (f : List ℕ) (at : ℕ) → length f ≤ at → none ≡ if_stands b (get_elem? f at)
+pub next_cut : (b : ℕ) (f : List ℕ) (at : ℕ) → length f ≤ at → None ≡ if_stands b (slice_get f at)
 next_cut b f at l = if_none b ∙ ap (if_stands b) (sym (look_none f at l))
 
-pub next_there : (b : ℕ) (f : List ℕ) (at : ℕ) → (b ≡ 0 → ⊥) → at < length f → some (get_or f at 0) ≡ if_stands b (get_elem? f at)
+pub next_there : (b : ℕ) (f : List ℕ) (at : ℕ) → (b ≡ 0 → ⊥) → at < length f → Some (get_or f at 0) ≡ if_stands b (slice_get f at)
 next_there zero f at h l = absurd (h refl)
 next_there (suc b) f at h l = sym (look (at_get_d f at 0 l))
+
+pub next_stands : (b : ℕ) (o : Option ℕ) → (b ≡ 0 → ⊥) → o ≡ if_stands b o
+next_stands zero o h = absurd (h refl)
+next_stands (suc b) o h = refl
 
 -- a map of no bits has no facts
 pub no_facts : (f : List ℕ) (at : ℕ) → standing_at f 0 at ≡ empty

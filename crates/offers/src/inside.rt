@@ -8,7 +8,8 @@ ghost use Rattle.estimate.specs.Additive.{sum_from};
 ghost use Rattle.estimate.specs.Ranks.{rank_number, Room, Inside, SumEnds, HasRanks, Fell, after_offer, after_fact};
 
 use crate::Summed;
-use estimate::ranks::{NEVER, OVER, lesser_rank};
+use estimate::ranks::{NEVER, OVER};
+use partial::standing_bits;
 use probefile::Probe;
 
 // Whether the file goes on from an offset for as many values as any map has, and a map has bits for such variables alone, of the first n, as have room among so many ranks.
@@ -26,14 +27,7 @@ pub fn inside(file: &[u8], from: usize, map: u64, n: usize, count: usize) -> boo
 fn with_room(n: usize, count: usize) -> usize
     ensures { result ≡ min (min n most_variables) (count / most_values) }
 {
-    smaller(smaller(n, Probe::MAX_VARIABLES), count / Probe::MAX_VALUES)
-}
-
-// The smaller of two counts.
-fn smaller(a: usize, b: usize) -> usize
-    ensures { result ≡ min a b }
-{
-    if b < a { b } else { a }
+    n.min(Probe::MAX_VARIABLES).min(count / Probe::MAX_VALUES)
 }
 
 // The sum of the numbers of the facts that a map has values for from an offset on, and where they end. Ranks below never's are added up, and the sum is over from over's rank on.
@@ -44,19 +38,16 @@ pub fn sum_inside(file: &[u8], from: usize, map: u64, ranks: &[u64]) -> Summed
 {
     let mut total: u64 = 0;
     let mut end = from;
-    let mut rest = map;
-    while rest != 0 {
-        let bit = partial::lowest_bit(rest);
-        let rank = rank_inside(ranks, bit.zeros, file[end] as usize);
+    for v in standing_bits(map) {
+        let rank = rank_inside(ranks, v, file[end] as usize);
         if NEVER <= rank {
             return Summed { rank, end };
         }
         total += rank;
-        rest = rest & (rest - 1);
         end += 1;
     }
     Summed {
-        rank: lesser_rank(total, OVER),
+        rank: total.min(OVER),
         end,
     }
 }
@@ -80,12 +71,8 @@ pub fn lower_inside(file: &[u8], from: usize, map: u64, offer: u64, ranks: &mut 
 {
     let mut fell = false;
     let mut at = from;
-    let mut rest = map;
-    while rest != 0 {
-        let bit = partial::lowest_bit(rest);
-        let more = value_lowered(bit.zeros, file[at] as usize, offer, ranks);
-        fell = fell || more;
-        rest = rest & (rest - 1);
+    for v in standing_bits(map) {
+        fell |= value_lowered(v, file[at] as usize, offer, ranks);
         at += 1;
     }
     fell

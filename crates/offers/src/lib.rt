@@ -2,23 +2,25 @@
 #![tactic(auto)]
 
 mod inside;
+pub mod rounds;
 
 ghost use Rattle.std.specs.Prelude.{◌≡◌, ◌+◌, ◌≤◌, length};
 ghost use Rattle.std.specs.Int.Count.{ones};
 ghost use Rattle.facts.specs.Partial.{standing_at, partial_at, past_partial};
 ghost use Rattle.estimate.specs.Number.{number, ranked};
-ghost use Rattle.estimate.specs.Facts.{number_in, HasFacts};
+ghost use Rattle.estimate.specs.Facts.{number_in};
 ghost use Rattle.estimate.specs.Additive.{sum_from};
-ghost use Rattle.estimate.specs.Ranks.{rank_number, Roomy, SumEnds, HasRanks, Fell, after_offer, after_fact, started_over};
+ghost use Rattle.estimate.specs.Ranks.{rank_number, SumEnds, HasRanks, Fell, after_offer, after_fact};
 
 use crate::inside::{fact_lowered, inside, lower_inside, sum_inside};
 use estimate::Est;
-use estimate::ranks::{NEVER, rank, rank_of, ranked, sum_rank};
-use facts::Field;
+use estimate::ranks::{NEVER, rank_of, sum_rank};
+use facts::number::read_map;
+use partial::standing_bits;
 use probefile::Probe;
 
 // The sum of the numbers of a partial state's facts, by its rank, and where the partial state ends; a sum that is never says nothing about the end.
-#[derive(Clone, Copy)]
+#[derive(Clone, Copy, Debug, PartialEq, Eq)]
 pub struct Summed {
     pub rank: u64,
     pub end: usize,
@@ -29,21 +31,19 @@ pub fn sum_at(file: &[u8], at: usize, n: usize, ranks: &[u64]) -> Summed
     ensures rank_value { ranked result.rank ≡ sum_from (rank_number ranks.now) 0 n (partial_at file.now at) }
     ensures sum_ends { SumEnds file.now (past_partial file.now at) result.rank result.end }
 {
-    match facts::number::read_map(file, at) {
-        Field::Refused(_) => Summed {
+    let Ok(map) = read_map(file, at) else {
+        return Summed {
             rank: 0,
             end: file.len() + 1, // past the end of the file all offsets are alike
-        },
-        Field::Value(map) => {
-            if inside(file, at + 8, map, n, ranks.len()) {
-                return sum_inside(file, at + 8, map, ranks);
-            }
-            values_sum(file, at, map, n, ranks)
-        }
+        };
+    };
+    if inside(file, at + 8, map, n, ranks.len()) {
+        return sum_inside(file, at + 8, map, ranks);
     }
+    values_sum(file, at, map, n, ranks)
 }
 
-// The same for the standing bits of the map at an offset; each turn takes the lowest bit away, and never stays never.
+// The same for the standing bits of the map at an offset, and never stays never.
 fn values_sum(file: &[u8], at: usize, map: u64, n: usize, ranks: &[u64]) -> Summed
     requires { at + 8 ≤ length file.now }
     ensures rank_value { ranked result.rank ≡ sum_from (rank_number ranks.now) 0 n (standing_at file.now map (at + 8)) }
@@ -51,13 +51,10 @@ fn values_sum(file: &[u8], at: usize, map: u64, n: usize, ranks: &[u64]) -> Summ
 {
     let mut total: u64 = 0;
     let mut end = at + 8;
-    let mut rest = map;
-    while rest != 0 {
+    for v in standing_bits(map) {
         if NEVER <= total {
             return Summed { rank: total, end };
         }
-        let bit = partial::lowest_bit(rest);
-        let v = bit.zeros;
         if n <= v {
             return Summed {
                 rank: total,
@@ -71,32 +68,21 @@ fn values_sum(file: &[u8], at: usize, map: u64, n: usize, ranks: &[u64]) -> Summ
             };
         }
         total = sum_rank(total, rank_of(ranks, v, file[end] as usize));
-        rest = rest & (rest - 1);
         end += 1;
     }
     Summed { rank: total, end }
 }
 
-// The goal facts' sum, by the array of facts: of the partial state at an offset, for n variables.
-pub fn goal_sum(file: &[u8], at: usize, n: usize, numbers: [Est; Probe::FACTS]) -> Est
-    ensures { number result ≡ sum_from (number_in numbers) 0 n (partial_at file.now at) }
-{
-    goal_sum_in(file, at, n, &numbers)
-}
-
-// The same of an array that stays where it is.
-pub fn goal_sum_in(file: &[u8], at: usize, n: usize, numbers: &[Est]) -> Est
+// The goal facts' sum, by the array of facts, which stays where it is: of the partial state at an offset, for n variables.
+pub fn goal_sum(file: &[u8], at: usize, n: usize, numbers: &[Est]) -> Est
     ensures { number result ≡ sum_from (number_in numbers.now) 0 n (partial_at file.now at) }
 {
     let mut total = Est::Exact(0);
-    let Field::Value(map) = facts::number::read_map(file, at) else {
+    let Ok(map) = read_map(file, at) else {
         return total;
     };
     let mut end = at + 8;
-    let mut rest = map;
-    while rest != 0 {
-        let bit = partial::lowest_bit(rest);
-        let v = bit.zeros;
+    for v in standing_bits(map) {
         if n <= v {
             return total;
         }
@@ -108,49 +94,9 @@ pub fn goal_sum_in(file: &[u8], at: usize, n: usize, numbers: &[Est]) -> Est
             return Est::Never;
         }
         total = estimate::sum(total, numbers[i]);
-        rest = rest & (rest - 1);
         end += 1;
     }
     total
-}
-
-// Lowers ranks to the numbers with which the estimate from a state starts: 0 for the facts of the state.
-pub fn start_in(state: &[u8], ranks: &mut [u64])
-    ensures { HasRanks ranks.new (started_over (rank_number ranks.old) state.now) }
-{
-    for v in 0..Probe::MAX_VARIABLES {
-        if state.len() <= v {
-            return;
-        }
-        let d = state[v] as usize;
-        if Probe::MAX_VALUES <= d {
-            continue;
-        }
-        let i = v * Probe::MAX_VALUES + d;
-        if ranks.len() <= i {
-            continue;
-        }
-        ranks[i] = rank(Est::Exact(0));
-    }
-}
-
-// Puts the last numbers back into an array, from their ranks: those of all facts of the file, variable by variable and value by value.
-pub fn put_back_in(last: &mut [Est; Probe::FACTS], sizes: &[u8], ranks: &[u64])
-    requires { Roomy sizes.now (length ranks.now) }
-    ensures { HasFacts sizes.now last.new (rank_number ranks.now) }
-{
-    let mut v = 0;
-    let mut d = 0;
-    while v < sizes.len() {
-        if sizes[v] as usize <= d {
-            v += 1;
-            d = 0;
-            continue;
-        }
-        let place = v * Probe::MAX_VALUES + d;
-        last[place] = ranked(ranks[place]);
-        d += 1;
-    }
 }
 
 // Offers a number, by its rank, to each fact of the partial state at an offset, which then has the lesser of its own and the offer; whether a rank fell.
@@ -158,15 +104,13 @@ pub fn lower_at(file: &[u8], at: usize, offer: u64, ranks: &mut [u64]) -> bool
     ensures has_ranks { HasRanks ranks.new (after_offer (record { effect = partial_at file.now at; number = ranked offer }) (rank_number ranks.old)) }
     ensures fell { Fell ranks.old ranks.new result }
 {
-    match facts::number::read_map(file, at) {
-        Field::Refused(_) => false,
-        Field::Value(map) => {
-            if inside(file, at + 8, map, Probe::MAX_VARIABLES, ranks.len()) {
-                return lower_inside(file, at + 8, map, offer, ranks);
-            }
-            values_lowered(file, at + 8, map, offer, ranks)
-        }
+    let Ok(map) = read_map(file, at) else {
+        return false;
+    };
+    if inside(file, at + 8, map, Probe::MAX_VARIABLES, ranks.len()) {
+        return lower_inside(file, at + 8, map, offer, ranks);
     }
+    values_lowered(file, at + 8, map, offer, ranks)
 }
 
 // The same for the values from an offset on, for the standing bits of a map.
@@ -176,19 +120,14 @@ fn values_lowered(file: &[u8], from: usize, map: u64, offer: u64, ranks: &mut [u
 {
     let mut fell = false;
     let mut at = from;
-    let mut rest = map;
-    while rest != 0 {
-        let bit = partial::lowest_bit(rest);
-        let v = bit.zeros;
+    for v in standing_bits(map) {
         if Probe::MAX_VARIABLES <= v {
             return fell;
         }
         if file.len() <= at {
             return fell;
         }
-        let more = lower_fact(v, file[at] as usize, offer, ranks);
-        fell = fell || more;
-        rest = rest & (rest - 1);
+        fell |= lower_fact(v, file[at] as usize, offer, ranks);
         at += 1;
     }
     fell

@@ -1,23 +1,23 @@
 // The least from the first node of a diagram on by the numbers of facts, in place: by one pass over its nodes from the last to the first.
 #![tactic(auto)]
 
-ghost use Rattle.std.specs.Prelude.{◌≡◌, true, ◌+◌, ◌≤◌, ◌<◌, map, length, get_or};
+ghost use Rattle.std.specs.Prelude.{◌≡◌, true, ◌≤◌, ◌<◌, map, length, get_or};
 ghost use Rattle.facts.specs.Lists.{up_from};
-ghost use Rattle.facts.specs.Fields.{word_at};
 ghost use Rattle.estimate.specs.Number.{never, lesser, ranked};
 ghost use Rattle.estimate.specs.Ranks.{rank_number};
 ghost use Rattle.taskfile.specs.PartsInPlace.{node_in, nodes_in};
 ghost use Rattle.relaxation.specs.Least.{least_of};
 ghost use Rattle.relaxation.specs.Pass.{least_at, least_from};
 ghost use Rattle.relaxation.specs.EstimatePass.{number_pass};
-ghost use Rattle.relaxation.specs.EstimateInPlace.{number_for, Climbing};
+ghost use Rattle.relaxation.specs.EstimateInPlace.{Climbing};
 ghost use Rattle.relaxation.specs.Sums.{settled_rank, Settled, Apart, EdgesInside};
+ghost use Rattle.price.specs.Choice.{number_by};
 
-use estimate::ranks::{NEVER, OVER, lesser_rank, rank_of, sum_rank};
+use estimate::ranks::{NEVER, OVER, rank_of, sum_rank};
 use facts::number::{byte_at, offset_at};
 use probefile::Probe;
 use taskfile::Task;
-use walk::{Edge, edge_for};
+use walk::{edge_for, weight_inside};
 
 // Stands for never in sums of ranks: no sum of an edge's parts that are not never comes near it.
 const FAR: u64 = 1099511627776;
@@ -32,10 +32,8 @@ pub fn least_from(file: &[u8], sizes: &[u8], count: usize, nodes: &[usize], rank
         return 0; // no table is needed
     }
     let mut least: [u64; Task::NUMBERS] = [0; Task::NUMBERS];
-    let mut k = count;
-    while 0 < k {
-        least[k] = least_rank(file, sizes, offset_at(nodes, k - 1), ranks, &least);
-        k -= 1;
+    for k in (0..count).rev() {
+        least[k + 1] = least_rank(file, sizes, offset_at(nodes, k), ranks, &least);
     }
     least[1]
 }
@@ -49,82 +47,114 @@ fn least_rank(file: &[u8], sizes: &[u8], node: usize, ranks: &[u64], least: &[u6
 {
     let variable = byte_at(file, node) as usize;
     let size = byte_at(sizes, variable);
-    if edges_inside(file, node, variable, size, ranks.len()) {
-        return least_inside(file, node, variable, size as usize, ranks, least);
+    let choice = Choice {
+        file,
+        node,
+        variable,
+        ranks,
+        least,
+    };
+    if choice.edges_inside(size) {
+        return choice.least_inside(size as usize);
     }
-    let best = least_by_value(file, node, variable, size, ranks, least);
+    let best = choice.least_by_value(size);
     if NEVER <= best {
         return FAR;
     }
     best
 }
 
-// Whether so many edges of the node at an offset lie inside the file, and its variable has room for as many values among so many ranks.
-fn edges_inside(file: &[u8], node: usize, variable: usize, size: u8, count: usize) -> bool
-    ensures { result ≡ true → EdgesInside file.now node variable size count }
-{
-    if file.len() <= node {
-        return false;
-    }
-    if file.len() - node <= Task::EDGE_BYTES * (size as usize) {
-        return false;
-    }
-    if Probe::MAX_VARIABLES <= variable {
-        return false;
-    }
-    if Probe::MAX_VALUES < (size as usize) {
-        return false;
-    }
-    variable * Probe::MAX_VALUES + (size as usize) <= count
-}
-
-// The rank of the least over the values of a variable where edges and ranks are known to be there: sums are cut off at over's rank once, at the end.
-fn least_inside(
-    file: &[u8],
+// The choice among the values of a variable, which the node at an offset tests: what each comes to is found by the ranks of the facts and by a table of the least from each later node on.
+#[derive(Clone, Copy)]
+struct Choice<'a> {
+    file: &'a [u8],
     node: usize,
     variable: usize,
-    size: usize,
-    ranks: &[u64],
-    least: &[u64],
-) -> u64
-    requires { EdgesInside file.now node variable size (length ranks.now) × Apart least.now }
-    ensures result_value { ranked result ≡ least_of lesser never (map (number_for file.now node (rank_number ranks.now) variable least.now) (up_from 0 size)) }
-    ensures settled { Settled result }
-{
-    let mut best = FAR;
-    for d in 0..size {
-        best = lesser_rank(best, edge_sum(file, node, variable, d, size, ranks, least));
-    }
-    settled(best)
+    ranks: &'a [u64],
+    least: &'a [u64],
 }
 
-// What the edge for a value comes to, by a sum of ranks that is not cut off; it is far above all others if it is never.
-fn edge_sum(
-    file: &[u8],
-    node: usize,
-    variable: usize,
-    value: usize,
-    size: usize,
-    ranks: &[u64],
-    least: &[u64],
-) -> u64
-    requires { EdgesInside file.now node variable size (length ranks.now) × Apart least.now × (value < size) }
-    ensures { ranked (settled_rank result) ≡ number_for file.now node (rank_number ranks.now) variable least.now value }
-{
-    let number = ranks[variable * Probe::MAX_VALUES + value];
-    if NEVER <= number {
-        return FAR;
+impl Choice<'_> {
+    // Whether so many edges of the node lie inside the file, and its variable has room for as many values among the ranks.
+    fn edges_inside(&self, size: u8) -> bool
+        ensures { result ≡ true → EdgesInside self.now.file.now self.now.node self.now.variable size (length self.now.ranks.now) }
+    {
+        if self.file.len() <= self.node {
+            return false;
+        }
+        if self.file.len() - self.node <= Task::EDGE_BYTES * (size as usize) {
+            return false;
+        }
+        if Probe::MAX_VARIABLES <= self.variable {
+            return false;
+        }
+        if Probe::MAX_VALUES < (size as usize) {
+            return false;
+        }
+        self.variable * Probe::MAX_VALUES + (size as usize) <= self.ranks.len()
     }
-    let at = node + (1 + Task::EDGE_BYTES * value);
-    number + weight_inside(file, at + 1) + rank_at(least, file[at] as usize)
-}
 
-// The two-byte number at an offset inside the file.
-fn weight_inside(file: &[u8], at: usize) -> u64
-    requires { at + 2 ≤ length file.now }
-    ensures { (result ≡ word_at file.now at) × (result ≤ 65535) }
-{
-    (file[at] as u64) + 256 * (file[at + 1] as u64)
+    // The rank of the least over the values where edges and ranks are known to be there: sums are cut off at over's rank once, at the end.
+    fn least_inside(&self, size: usize) -> u64
+        requires inside { EdgesInside self.now.file.now self.now.node self.now.variable size (length self.now.ranks.now) }
+        requires apart { Apart self.now.least.now }
+        ensures result_value { ranked result ≡ least_of lesser never (map (number_by self.now) (up_from 0 size)) }
+        ensures settled { Settled result }
+    {
+        let mut best = FAR;
+        for d in 0..size {
+            best = best.min(self.edge_sum(d, size));
+        }
+        settled(best)
+    }
+
+    // What the edge for one of so many values comes to, by a sum of ranks that is not cut off; it is far above all others if it is never.
+    fn edge_sum(&self, value: usize, size: usize) -> u64
+        requires inside { EdgesInside self.now.file.now self.now.node self.now.variable size (length self.now.ranks.now) }
+        requires apart { Apart self.now.least.now }
+        requires below { value < size }
+        ensures { ranked (settled_rank result) ≡ number_by self.now value }
+    {
+        let number = self.ranks[self.variable * Probe::MAX_VALUES + value];
+        if NEVER <= number {
+            return FAR;
+        }
+        let at = self.node + (1 + Task::EDGE_BYTES * value);
+        number + weight_inside(self.file, at + 1) + self.rank_at(self.file[at] as usize)
+    }
+
+    // The rank of the least over the values, each edge and each rank read only where it is there.
+    fn least_by_value(&self, size: u8) -> u64
+        ensures { ranked result ≡ least_of lesser never (map (number_by self.now) (up_from 0 size)) }
+    {
+        let mut best = NEVER;
+        for d in 0..size {
+            best = best.min(self.rank_for(d));
+        }
+        best
+    }
+
+    // The rank of what the edge for a value comes to.
+    fn rank_for(&self, value: u8) -> u64
+        ensures { ranked result ≡ number_by self.now value }
+    {
+        let number = rank_of(self.ranks, self.variable, value as usize);
+        if NEVER <= number {
+            return NEVER; // never plus anything is never
+        }
+        let edge = edge_for(self.file, self.node, value);
+        sum_rank(
+            edge.weight as u64,
+            sum_rank(number, self.rank_at(edge.target)),
+        )
+    }
+
+    // The rank of the least from a node on, by its number; 0 past the last.
+    fn rank_at(&self, k: usize) -> u64
+        ensures { result ≡ get_or self.now.least.now k 0 }
+    {
+        self.least.get(k).copied().unwrap_or(0)
+    }
 }
 
 // The rank of a sum that is not cut off.
@@ -134,55 +164,5 @@ fn settled(sum: u64) -> u64
     if FAR <= sum {
         return FAR;
     }
-    lesser_rank(sum, OVER)
-}
-
-// The rank of the least over the values of a variable, each edge and each rank read only where it is there.
-fn least_by_value(
-    file: &[u8],
-    node: usize,
-    variable: usize,
-    size: u8,
-    ranks: &[u64],
-    least: &[u64],
-) -> u64
-    ensures { ranked result ≡ least_of lesser never (map (number_for file.now node (rank_number ranks.now) variable least.now) (up_from 0 size)) }
-{
-    let mut best = NEVER;
-    for d in 0..size {
-        best = lesser_rank(best, rank_for(file, node, variable, d, ranks, least));
-    }
-    best
-}
-
-// The rank of what the edge for a value of its variable, of the node at an offset, comes to.
-fn rank_for(
-    file: &[u8],
-    node: usize,
-    variable: usize,
-    value: u8,
-    ranks: &[u64],
-    least: &[u64],
-) -> u64
-    ensures { ranked result ≡ number_for file.now node (rank_number ranks.now) variable least.now value }
-{
-    let number = rank_of(ranks, variable, value as usize);
-    if NEVER <= number {
-        return NEVER; // never plus anything is never
-    }
-    let edge = edge_for(file, node, value);
-    sum_rank(
-        edge.weight as u64,
-        sum_rank(number, rank_at(least, edge.target)),
-    )
-}
-
-// The rank at an index of a table, 0 past the last.
-fn rank_at(table: &[u64], i: usize) -> u64
-    ensures { result ≡ get_or table.now i 0 }
-{
-    if table.len() <= i {
-        return 0;
-    }
-    table[i]
+    sum.min(OVER)
 }

@@ -24,6 +24,7 @@ use Rattle.estimate.specs.RanksLaws.{roomy}
 use Rattle.estimate.specs.FallLaws.{Supported, constant_supported, all_supported}
 use Rattle.estimate.specs.InTurn.{InTurn}
 use Rattle.estimate.specs.InTurnLaws.{Turning, turning_more, turning_end}
+use Rattle.offers.specs.Rounds.{WellPosed}
 use Rattle.probefile.specs.Probe.{Step, WfStep, max_variables, max_values}
 use Rattle.probefile.specs.ProbeLaws.{probe_lines, probe_wf}
 use Rattle.probefile.specs.InPlace.{probe_at, step_at, Located, Costed}
@@ -65,6 +66,10 @@ module _ (f offsets : List ℕ) (n : ℕ) where
 -- a step has a fixed cost
 pub steps_supported : (f offsets : List ℕ) → All (λ a. Supported a.cost) (map (achiever_at f) offsets)
 steps_supported f offsets = all_supported (achiever_at f) (λ at. constant_supported (exact (step_at f at).cost)) offsets
+
+-- offers of steps end on their estimate
+pub posed : {f sizes : List ℕ} {goal : ℕ} {offsets : List ℕ} → Ready f sizes goal offsets → WellPosed sizes (map (achiever_at f) offsets) (partial_at f goal)
+posed {f} {offsets = offsets} r = record { achievers_wf = r.steps; supported = steps_supported f offsets; goal_wf = r.goal_is }
 
 -- ---- the file that was read
 

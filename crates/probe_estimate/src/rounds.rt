@@ -1,16 +1,16 @@
 // The estimate of a probe file, in place: one array of ranks, which steps lower in turn.
-ghost use Rattle.std.specs.Prelude.{◌≡◌, ◌<◌, ◌≤◌, map, length, get_or};
+ghost use Rattle.std.specs.Prelude.{◌≡◌, ◌<◌, map, length, get_or};
 ghost use Rattle.facts.specs.Partial.{partial_at};
 ghost use Rattle.facts.specs.Fields.{word_at};
 ghost use Rattle.estimate.specs.Number.{number};
 ghost use Rattle.estimate.specs.Additive.{additive};
-ghost use Rattle.estimate.specs.Ranks.{rank_number, HasRanks, Roomy, Fresh, Fell};
-ghost use Rattle.estimate.specs.InTurn.{InTurn};
+ghost use Rattle.estimate.specs.Ranks.{rank_number, HasRanks, Fell};
 ghost use Rattle.probefile.specs.InPlace.{step_at, Costed};
 ghost use Rattle.probe_estimate.specs.Estimate.{achiever_at, after_step, Ready};
 
 use estimate::Est;
-use estimate::ranks::{NEVER, UNSET, sum_rank};
+use estimate::ranks::{NEVER, sum_rank};
+use offers::rounds::Achievers;
 use probefile::Probe;
 
 // The arrays of ranks of files that have few variables: for so many, and with so many places each.
@@ -26,80 +26,55 @@ const FEW: usize = 16;
 
 const FEW_FACTS: usize = FEW * Probe::MAX_VALUES;
 
+const FACTS: usize = Probe::FACTS;
+
 // The estimate from a state: `offsets` has the offset of each step, and the goal starts at `goal`. An array is filled in whole, so the smallest that has room for all facts is taken.
 pub fn settle(file: &[u8], sizes: &[u8], goal: usize, offsets: &[usize], state: &[u8]) -> Est
     requires { Ready file.now sizes.now goal offsets.now }
     ensures { number result ≡ additive sizes.now (map (achiever_at file.now) offsets.now) (partial_at file.now goal) state.now }
 {
-    if sizes.len() <= FEW {
-        return settle_few(file, sizes, goal, offsets, state);
-    }
-    settle_many(file, sizes, goal, offsets, state)
-}
-
-// The same for a file of any number of variables. It has a place of its own on the stack, so that the array does not lie beside the smaller ones.
-#[inline(never)]
-fn settle_many(file: &[u8], sizes: &[u8], goal: usize, offsets: &[usize], state: &[u8]) -> Est
-    requires { Ready file.now sizes.now goal offsets.now }
-    ensures { number result ≡ additive sizes.now (map (achiever_at file.now) offsets.now) (partial_at file.now goal) state.now }
-{
-    let mut ranks = [UNSET; Probe::FACTS];
-    settle_in(file, sizes, goal, offsets, state, &mut ranks)
-}
-
-// The same for a file of few variables, likewise.
-#[inline(never)]
-fn settle_few(file: &[u8], sizes: &[u8], goal: usize, offsets: &[usize], state: &[u8]) -> Est
-    requires { Ready file.now sizes.now goal offsets.now × (length sizes.now ≤ 16) }
-    ensures { number result ≡ additive sizes.now (map (achiever_at file.now) offsets.now) (partial_at file.now goal) state.now }
-{
+    let steps = Steps {
+        file,
+        sizes,
+        offsets,
+    };
     if sizes.len() <= FEWEST {
-        let mut fewest = [UNSET; FEWEST_FACTS];
-        return settle_in(file, sizes, goal, offsets, state, &mut fewest);
+        return offers::rounds::settle::<FEWEST_FACTS, _>(&steps, file, sizes, goal, state);
     }
     if sizes.len() <= FEWER {
-        let mut fewer = [UNSET; FEWER_FACTS];
-        return settle_in(file, sizes, goal, offsets, state, &mut fewer);
+        return offers::rounds::settle::<FEWER_FACTS, _>(&steps, file, sizes, goal, state);
     }
-    let mut few = [UNSET; FEW_FACTS];
-    settle_in(file, sizes, goal, offsets, state, &mut few)
+    if sizes.len() <= FEW {
+        return offers::rounds::settle::<FEW_FACTS, _>(&steps, file, sizes, goal, state);
+    }
+    offers::rounds::settle::<FACTS, _>(&steps, file, sizes, goal, state)
 }
 
-// The same in fresh ranks, to which the numbers of the start are lent: offers until no rank falls; then the last numbers are put back into an array, and the goal facts' sum is taken from it. There is one such array, lent and not copied, as the stack has to hold it.
-fn settle_in(
-    file: &[u8],
-    sizes: &[u8],
-    goal: usize,
-    offsets: &[usize],
-    state: &[u8],
-    ranks: &mut [u64],
-) -> Est
-    requires { Ready file.now sizes.now goal offsets.now × Roomy sizes.now (length ranks.old) × Fresh ranks.old }
-    ensures { number result ≡ additive sizes.now (map (achiever_at file.now) offsets.now) (partial_at file.now goal) state.now }
-{
-    offers::start_in(state, ranks);
-    loop {
-        if offer_steps(file, offsets, sizes.len(), ranks) {
-            continue;
+// The steps of a file, by the offset of each.
+#[derive(Clone, Copy)]
+struct Steps<'a> {
+    file: &'a [u8],
+    sizes: &'a [u8],
+    offsets: &'a [usize],
+}
+
+impl Achievers for Steps<'_> {
+    ghost ready = { λ steps. Costed steps.file.now steps.offsets.now };
+
+    ghost variables = { λ steps. length steps.sizes.now };
+
+    ghost achievers = { λ steps. map (achiever_at steps.file.now) steps.offsets.now };
+
+    fn offer(&self, ranks: &mut [u64]) -> bool {
+        let mut fell = false;
+        for (k, at) in self.offsets.iter().enumerate() {
+            let cost = cost_place(self.file, self.offsets, k);
+            if offer_step(self.file, *at, cost, self.sizes.len(), ranks) {
+                fell = true;
+            }
         }
-        let mut last = [Est::Never; Probe::FACTS];
-        offers::put_back_in(&mut last, sizes, ranks);
-        return offers::goal_sum_in(file, goal, sizes.len(), &last);
+        fell
     }
-}
-
-// All steps offer in turn, each by the numbers as they are then; whether a rank fell. There are n variables.
-fn offer_steps(file: &[u8], offsets: &[usize], n: usize, ranks: &mut [u64]) -> bool
-    requires { Costed file.now offsets.now }
-    ensures { InTurn n (map (achiever_at file.now) offsets.now) ranks.old ranks.new result }
-{
-    let mut fell = false;
-    for k in 0..offsets.len() {
-        let cost = cost_place(file, offsets, k);
-        let more = offer_step(file, offsets[k], cost, n, ranks);
-        fell = fell || more;
-    }
-    fell
 }
 
 // Where the cost of step number k stands: before the next step, or before the end of the file.

@@ -1,8 +1,7 @@
 -- "Where costs and preconditions share no variable, no cost given moves."
-use Rattle.std.specs.Prelude.{◌≡◌, refl, ℕ, zero, suc, ◌+◌, ◌-◌, ◌≤◌, min}
+use Rattle.std.specs.Prelude.{◌≡◌, refl, ℕ, zero, suc, ◌+◌, ◌-◌, ◌≤◌, min, None}
 use Rattle.std.proofs.Common.{sym, ap₂, ◌∙◌, arith}
 use Rattle.std.proofs.Math.Path.{ap}
-use Rattle.std.proofs.Math.Option.{none}
 use mathlib.Core.List.{List, [], ◌∷◌, map}
 use Rattle.std.proofs.Math.ListN.{get_or}
 use Rattle.facts.specs.Read.{accepted}
@@ -39,7 +38,7 @@ module _ (sets others : List ℕ) where
   pass_same x h = ap (λ (froms : List ℕ). x.incoming + get_or froms 0 0) (froms_same 1 x.nodes h)
 
 -- a set whose variable has no value in the precondition stays
-narrowed_same : (v : ℕ) (p : Partial) (sets : List ℕ) (k q : ℕ) → q ≡ v + k → value_of p q ≡ none → get_or (narrowed_from v p sets) k 0 ≡ get_or sets k 0
+narrowed_same : (v : ℕ) (p : Partial) (sets : List ℕ) (k q : ℕ) → q ≡ v + k → value_of p q ≡ None → get_or (narrowed_from v p sets) k 0 ≡ get_or sets k 0
 narrowed_same v p [] k q e h = refl
 narrowed_same v p (set ∷ sets) zero q e h = let z : v ≡ q = omega arith in ap (kept_set set) (ap (value_of p) z ∙ h)
 narrowed_same v p (set ∷ sets) (suc k) q e h = narrowed_same (suc v) p sets k q (omega arith) h

@@ -1,7 +1,6 @@
 -- Laws of a set narrowed to one value.
-use Rattle.std.specs.Prelude.{◌≡◌, refl, Bool, true, false, List, [], ℕ, zero, suc, ◌+◌, ◌*◌, ◌/◌, ◌%◌, ◌^◌, ◌≤◌, ◌<◌, eqb}
+use Rattle.std.specs.Prelude.{◌≡◌, refl, Bool, true, false, List, [], ℕ, zero, suc, ◌+◌, ◌*◌, ◌/◌, ◌%◌, ◌^◌, ◌≤◌, ◌<◌, eqb, Option, None, Some}
 use Rattle.std.proofs.Common.{sym, ap, ap₂, ◌∙◌, mul-le-mul_right, one-mul, zero-mul, lt_of_lt_of_le, arith, pow_pos, pow_mono, shl_exact, eq-eqb, ne_eqb, eqb-true}
-use Rattle.std.proofs.Math.Option.{Option, none, some}
 use Rattle.std.proofs.Math.Nat.{div-eq_of_lt}
 use Rattle.std.proofs.Math.Pow.{split}
 use Rattle.facts.specs.BitsLaws.{doubled, even_bit, even_half}
@@ -48,13 +47,13 @@ value_alone (suc n) d set c (suc j) e =
 
 -- whether a value is the one, if there is one
 abbrev pub agreeing : Option ℕ → ℕ → Bool
-agreeing none x = true
-agreeing (some d) x = eqb d x
+agreeing None x = true
+agreeing (Some d) x = eqb d x
 
 -- its values are those of the set that agree
 pub kept_values : (set : ℕ) (o : Option ℕ) → passing (agreeing o) (values_in set) ≡ values_in (kept_set set o)
-kept_values set none = passing_all (values_in set)
-kept_values set (some c) = value_alone max_values 0 set c c (omega arith)
+kept_values set None = passing_all (values_in set)
+kept_values set (Some c) = value_alone max_values 0 set c c (omega arith)
 
 -- ---- where the set has the value
 
@@ -65,13 +64,13 @@ bit_low set d h =
     let whole : 1 * 2 ^ d ≤ set / 2 ^ d * 2 ^ d = mul-le-mul_right (2 ^ d) some in
     omega (arith, split set d, whole, one-mul (2 ^ d))
 
-kept_one : (set d : ℕ) → bit_of set d ≡ 1 → kept_set set (some d) ≡ 2 ^ d
+kept_one : (set d : ℕ) → bit_of set d ≡ 1 → kept_set set (Some d) ≡ 2 ^ d
 kept_one set d h = ap (λ (b : ℕ). b * 2 ^ d) h ∙ one-mul (2 ^ d)
 
 -- it is not empty and has no stray bit
 pub kept_inside : (size set : ℕ) (o : Option ℕ) → allows set o ≡ true → SetInside size set → SetInside size (kept_set set o)
-kept_inside size set none h inside = inside
-kept_inside size set (some d) h inside =
+kept_inside size set None h inside = inside
+kept_inside size set (Some d) h inside =
     let b = eqb-true (bit_of set d) 1 h in
     let k = kept_one set d b in
     record { some = omega (arith, k, pow_pos d); no_stray = omega (arith, k, bit_low set d b, inside.no_stray) }
@@ -79,23 +78,23 @@ kept_inside size set (some d) h inside =
 -- ---- what code finds: a set that is not empty lacks the value exactly if nothing is left of it
 
 pub kept_lacks : (set : ℕ) (o : Option ℕ) → 0 < set → kept_set set o ≡ 0 → allows set o ≡ false
-kept_lacks set none l e = absurd (omega arith)
-kept_lacks set (some d) l e = ne_eqb (bit_of set d) 1 (λ h. absurd (omega (arith, e, kept_one set d h, pow_pos d)))
+kept_lacks set None l e = absurd (omega arith)
+kept_lacks set (Some d) l e = ne_eqb (bit_of set d) 1 (λ h. absurd (omega (arith, e, kept_one set d h, pow_pos d)))
 
 pub kept_has : (set : ℕ) (o : Option ℕ) → (kept_set set o ≡ 0 → ⊥) → allows set o ≡ true
-kept_has set none h = refl
-kept_has set (some d) h = go (bit_of set d) refl (omega arith)
+kept_has set None h = refl
+kept_has set (Some d) h = go (bit_of set d) refl (omega arith)
   where
-    go : (b : ℕ) → bit_of set d ≡ b → b < 2 → allows set (some d) ≡ true
+    go : (b : ℕ) → bit_of set d ≡ b → b < 2 → allows set (Some d) ≡ true
     go zero e l = absurd (h (ap (λ (b : ℕ). b * 2 ^ d) e ∙ omega arith))
     go (suc b) e l = eq-eqb (bit_of set d) 1 (omega arith)
 
 -- ---- a set of one byte
 
 -- it has no value from 8 on
-pub alone_beyond : (set d : ℕ) → set < 2 ^ 8 → 8 ≤ d → kept_set set (some d) ≡ 0
+pub alone_beyond : (set d : ℕ) → set < 2 ^ 8 → 8 ≤ d → kept_set set (Some d) ≡ 0
 alone_beyond set d h l = ap (λ (q : ℕ). q % 2 * 2 ^ d) (div-eq_of_lt (lt_of_lt_of_le h (pow_mono l))) ∙ zero-mul (2 ^ d)
 
 -- and one below stays in it
-pub alone_shifted : (set d : ℕ) → d < 8 → bit_of set d * 2 ^ d % 2 ^ 8 ≡ kept_set set (some d)
+pub alone_shifted : (set d : ℕ) → d < 8 → bit_of set d * 2 ^ d % 2 ^ 8 ≡ kept_set set (Some d)
 alone_shifted set d l = shl_exact 1 d 8 (omega arith) (omega arith)

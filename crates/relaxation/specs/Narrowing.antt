@@ -1,6 +1,5 @@
 -- The sets of a relaxed state narrowed to the values of a precondition: what code does before its pass over a diagram.
-use Rattle.std.specs.Prelude.{◌≡◌, ℕ, suc, ◌*◌, ◌^◌, List, [], ◌∷◌}
-use Rattle.std.proofs.Math.Option.{Option, none, some}
+use Rattle.std.specs.Prelude.{◌≡◌, ℕ, suc, ◌*◌, ◌^◌, List, [], ◌∷◌, Option, None, Some}
 use Rattle.facts.specs.Read.{accepted}
 use Rattle.facts.specs.Partial.{Partial}
 use Rattle.value.specs.Value.{value_of, bit_of}
@@ -8,8 +7,8 @@ use Rattle.relaxation.specs.RelaxedTask.{check_meets}
 
 -- a set without all values but one, if there is one
 abbrev pub kept_set : ℕ → Option ℕ → ℕ
-kept_set set none = set
-kept_set set (some d) = bit_of set d * 2 ^ d
+kept_set set None = set
+kept_set set (Some d) = bit_of set d * 2 ^ d
 
 -- each set without all values but the precondition's; the first variable has the number v
 abbrev pub narrowed_from : ℕ → Partial → List ℕ → List ℕ

@@ -1,6 +1,5 @@
 -- Relaxed costs of task files as bytes. Document 01, "Relaxed cost and estimate", "Turned down", as W5 of document 02 has them.
-use Rattle.std.specs.Prelude.{ℕ, ◌^◌, Bool, true, ◌&&◌, List, eqb, ltb, length}
-use Rattle.std.proofs.Math.Option.{Option, none, some}
+use Rattle.std.specs.Prelude.{ℕ, ◌^◌, Bool, true, ◌&&◌, List, eqb, ltb, length, Option, None, Some}
 use Rattle.facts.specs.Read.{Read, accepted, ◌>>=◌}
 use Rattle.facts.specs.Lists.{up_from}
 use Rattle.facts.specs.Partial.{Partial}
@@ -20,8 +19,8 @@ check_relaxed sizes sets = check_with good_set sizes sets
 
 -- a set has the value that a precondition has for its variable, if it has one; "bit d for value d"
 abbrev pub allows : ℕ → Option ℕ → Bool
-allows set none = true
-allows set (some d) = eqb (bit_of set d) 1
+allows set None = true
+allows set (Some d) = eqb (bit_of set d) 1
 
 -- "17 where a set lacks a precondition value, at the lowest such variable"
 unfoldable pub check_meets : Partial → List ℕ → Read (Unit {0})

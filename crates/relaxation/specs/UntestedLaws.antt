@@ -1,6 +1,5 @@
 -- "Where costs and preconditions share no variable, no cost given moves."
-use Rattle.std.specs.Prelude.{◌≡◌, ℕ, min}
-use Rattle.std.proofs.Math.Option.{none}
+use Rattle.std.specs.Prelude.{◌≡◌, ℕ, min, None}
 use mathlib.Core.List.{List, map}
 use Rattle.facts.specs.Lists.{At}
 use Rattle.value.specs.Value.{value_of}
@@ -14,4 +13,4 @@ unrestricted_cost x sets = least_over min 0 (map values_in sets) (cost x)
 
 -- the diagram tests no variable of the precondition
 abbrev pub Untested : Action → Type 0
-Untested x = (j : ℕ) (nd : Node) → At x.nodes j nd → value_of x.pre nd.var ≡ none
+Untested x = (j : ℕ) (nd : Node) → At x.nodes j nd → value_of x.pre nd.var ≡ None

@@ -1,3 +1,5 @@
+-- What the walk goes by.
+pub mod Course
 -- Laws of the answer.
 pub mod AnswerLaws
 -- The known cases with a buffer, computed.

@@ -3,8 +3,7 @@ ghost use Rattle.std.specs.Prelude.{◌≡◌, ◌+◌, ◌≤◌, ◌<◌, map,
 ghost use Rattle.facts.specs.Lists.{up_from};
 ghost use Rattle.taskfile.specs.Task.{max_weight};
 ghost use Rattle.taskfile.specs.PartsInPlace.{Tests};
-ghost use Rattle.relaxation.specs.RelaxedInPlace.{greatest};
-ghost use Rattle.relaxation.specs.RelaxedInPlace.{cost_for};
+ghost use Rattle.relaxation.specs.RelaxedInPlace.{cost_for, greatest};
 ghost use Rattle.dearest.specs.ByWalk.{first_costing};
 ghost use Rattle.dearest.specs.InPlace.{Low, Edges};
 
@@ -19,22 +18,18 @@ pub fn greatest_at(file: &[u8], sizes: &[u8], node: usize, table: &[u32]) -> u32
     let size = sizes[file[node] as usize] as usize;
     let mut most: u32 = 0;
     for d in 0..size {
-        let cost = cost_by(file, node, size, d, table);
-        let more = most < cost;
-        if more {
-            most = cost;
-        }
+        most = most.max(cost_by(file, node, size, d, table));
     }
     most
 }
 
 // The first of the values of the node at an offset that comes to a cost.
-pub fn first_costing(file: &[u8], node: usize, size: usize, table: &[u32], cost: u32) -> usize
+pub fn first_costing(file: &[u8], node: usize, size: u8, table: &[u32], cost: u32) -> u8
     requires { Edges file.now node size × Low table.now }
     ensures { result ≡ first_costing (cost_for file.now node table.now) cost size }
 {
     for d in 0..size {
-        if cost_by(file, node, size, d, table) == cost {
+        if cost_by(file, node, size as usize, d as usize, table) == cost {
             return d;
         }
     }

@@ -5,6 +5,7 @@ mod edge;
 mod state;
 
 ghost use Rattle.std.specs.Prelude.{◌≡◌, length};
+ghost use Rattle.facts.specs.Answers.{answer};
 ghost use Rattle.taskfile.specs.Blank.{file_of};
 ghost use Rattle.taskfile.specs.Index.{Ready};
 ghost use Rattle.taskfile.specs.PartsInPlace.{action_in};
@@ -12,30 +13,24 @@ ghost use Rattle.carry.specs.CarryFile.{answer_in, buffer_in};
 ghost use Rattle.dearest.specs.Dearest.{dearest_of};
 ghost use Rattle.dearest.specs.ByWalk.{greatest_by_pass, dearest_by_walk};
 ghost use Rattle.dearest.specs.InPlace.{Drawn};
-ghost use Rattle.dearest.specs.Answers.{dearest_answer};
 
 use crate::edge::greatest_at;
-use crate::state::put_state;
-use dearest::Dearest;
+use crate::state::Course;
 use facts::Refusal;
 use facts::number::offset_at;
 use index::bytes_of;
-use taskfile::{Counted, Task};
+use taskfile::Task;
 use walk::{diagram_at, own_nodes};
 
-// What an action costs at most, and the first state that costs it, at the buffer's front: the file's refusals, then 11 for the number, then 7 where the buffer is shorter than a state; a refusal changes no byte.
-pub fn dearest(file: &[u8], action: usize, out: &mut [u8]) -> Dearest
-    ensures result_value { dearest_answer result ≡ answer_in (length out.old) (dearest_of file.now action) }
+// What an action costs at most, and the first state that costs it, at the buffer's front: how many variables it has, and the cost; the file's refusals, then 11 for the number, then 7 where the buffer is shorter than a state; a refusal changes no byte.
+pub fn dearest(file: &[u8], action: usize, out: &mut [u8]) -> Result<(usize, u32), Refusal>
+    ensures result_value { answer result ≡ answer_in (length out.old) (dearest_of file.now action) }
     ensures out_after { out.new ≡ buffer_in out.old (dearest_of file.now action) }
 {
     let mut row = [0; Task::ROW];
-    match index::index_in(file, &mut row) {
-        Counted::Refused(why) => Dearest::Refused(why),
-        Counted::Actions(variables, actions) => {
-            let bytes = bytes_of(file, &Task::BLANK);
-            dearest_in(bytes, variables, actions, &row, action, out)
-        }
-    }
+    let (variables, actions) = index::index_in(file, &mut row)?;
+    let bytes = bytes_of(file, &Task::BLANK);
+    dearest_in(bytes, variables, actions, &row, action, out)
 }
 
 // The same, of an accepted file by the bytes in which its task is found.
@@ -46,23 +41,23 @@ fn dearest_in(
     row: &[usize],
     action: usize,
     out: &mut [u8],
-) -> Dearest
+) -> Result<(usize, u32), Refusal>
     requires { Ready file.now variables actions row.now }
-    ensures result_value { dearest_answer result ≡ answer_in (length out.old) (dearest_of (file_of file.now) action) }
+    ensures result_value { answer result ≡ answer_in (length out.old) (dearest_of (file_of file.now) action) }
     ensures out_after { out.new ≡ buffer_in out.old (dearest_of (file_of file.now) action) }
 {
     if actions <= action {
-        return Dearest::Refused(Refusal::Missing(0));
+        return Err(Refusal::Missing(0));
     }
     if out.len() < variables {
-        return Dearest::Refused(Refusal::Short(variables));
+        return Err(Refusal::Short(variables));
     }
     let last = 1 + variables;
     let sizes = &file[1..last];
     let own = own_nodes(row, action);
     let at = offset_at(row, action);
     let cost = dearest_at(file, sizes, at, &row[own..], &mut out[..variables]);
-    Dearest::State(variables, cost)
+    Ok((variables, cost))
 }
 
 // The greatest cost of the action at an offset, whose own nodes begin at the offsets `nodes`, and the first state that has it. Entry k of the table is the greatest from node k on; the terminal's is 0.
@@ -73,12 +68,17 @@ fn dearest_at(file: &[u8], sizes: &[u8], at: usize, nodes: &[usize], state: &mut
 {
     let diagram = diagram_at(file, at);
     let mut table: [u32; Task::NUMBERS] = [0; Task::NUMBERS];
-    let mut k = diagram.count;
-    while 0 < k {
-        let from = greatest_at(file, sizes, offset_at(nodes, k - 1), &table);
-        table[k] = from;
-        k -= 1;
+    for k in (0..diagram.count).rev() {
+        table[k + 1] = greatest_at(file, sizes, offset_at(nodes, k), &table);
     }
-    put_state(file, sizes, at, nodes, diagram.count, &table, state);
+    let course = Course {
+        file,
+        sizes,
+        at,
+        nodes,
+        count: diagram.count,
+        table: &table,
+    };
+    course.put_state(state);
     diagram.incoming + table[1]
 }

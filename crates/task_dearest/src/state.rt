@@ -1,8 +1,7 @@
 // The walk from node 1 that keeps the greatest cost, and the state that it gives.
 ghost use Rattle.std.specs.Prelude.{◌≡◌, ◌+◌, ◌≤◌, ◌<◌, length, get_or};
-ghost use Rattle.taskfile.specs.PartsInPlace.{action_in};
 ghost use Rattle.dearest.specs.ByWalk.{value_at, next_at, dearest_by_walk};
-ghost use Rattle.dearest.specs.InPlace.{Tabled};
+ghost use Rattle.task_dearest.specs.Course.{action_of, Ready};
 
 use crate::edge::first_costing;
 use facts::number::offset_at;
@@ -11,68 +10,65 @@ use taskfile::Task;
 // The value of a variable that the walk does not pass.
 const UNPASSED: u8 = 0;
 
-// A turn of the walk: the value of a variable, and the number to go on from.
+// What the walk goes by: the `count` nodes of the action at an offset, which begin at the offsets `nodes`, and the table of the greatest from each number on.
 #[derive(Clone, Copy)]
-pub struct Turn {
-    pub value: u8,
-    pub next: usize,
+pub struct Course<'a> {
+    pub file: &'a [u8],
+    pub sizes: &'a [u8],
+    pub at: usize,
+    pub nodes: &'a [usize],
+    pub count: usize,
+    pub table: &'a [u32],
 }
 
-// The state of the walk through the `count` nodes of the action at an offset, variable by variable.
-pub fn put_state(
-    file: &[u8],
-    sizes: &[u8],
-    at: usize,
-    nodes: &[usize],
-    count: usize,
-    table: &[u32],
-    state: &mut [u8],
-)
-    requires { Tabled file.now sizes.now at nodes.now count table.now × (length state.old ≡ length sizes.now) }
-    ensures { state.new ≡ dearest_by_walk sizes.now (action_in file.now sizes.now at nodes.now) }
-{
-    let mut k: usize = 1;
-    let mut v: usize = 0;
-    while v < sizes.len() {
-        let turn = turn_at(file, sizes, at, nodes, count, table, k, v);
-        state[v] = turn.value;
-        k = turn.next;
-        v += 1;
-    }
+// A turn of the walk: the value of a variable, and the number to go on from.
+#[derive(Clone, Copy, Debug, PartialEq, Eq)]
+struct Turn {
+    value: u8,
+    next: usize,
 }
 
-// At number k, the value of variable v: the first that keeps the greatest cost where node k tests it, and on by its edge; else 0, and on from number k.
-fn turn_at(
-    file: &[u8],
-    sizes: &[u8],
-    at: usize,
-    nodes: &[usize],
-    count: usize,
-    table: &[u32],
-    k: usize,
-    v: usize,
-) -> Turn
-    requires { Tabled file.now sizes.now at nodes.now count table.now × (1 ≤ k) × (k ≤ count + 1) × (v < length sizes.now) }
-    ensures value_value { result.value ≡ value_at sizes.now (action_in file.now sizes.now at nodes.now).nodes k v (get_or sizes.now v 0) }
-    ensures next_value { result.next ≡ next_at sizes.now (action_in file.now sizes.now at nodes.now).nodes k v result.value }
-    ensures le_next { (1 ≤ result.next) × (result.next ≤ count + 1) }
-{
-    if count < k {
-        return Turn {
-            value: UNPASSED,
-            next: k,
-        };
+impl Course<'_> {
+    // The state of the walk, variable by variable.
+    pub fn put_state(&self, state: &mut [u8])
+        requires ready { Ready self.now }
+        requires wide { length state.old ≡ length self.now.sizes.now }
+        ensures { state.new ≡ dearest_by_walk self.now.sizes.now (action_of self.now) }
+    {
+        let mut k: usize = 1;
+        for v in 0..self.sizes.len() {
+            let turn = self.turn_at(k, v);
+            state[v] = turn.value;
+            k = turn.next;
+        }
     }
-    let node = offset_at(nodes, k - 1);
-    if (file[node] as usize) != v {
-        return Turn {
-            value: UNPASSED,
-            next: k,
-        };
-    }
-    let value = first_costing(file, node, sizes[v] as usize, table, table[k]);
-    Turn {
-        value: value as u8,
-        next: file[node + (1 + Task::EDGE_BYTES * value)] as usize,
+
+    // At number k, the value of variable v: the first that keeps the greatest cost where node k tests it, and on by its edge; else 0, and on from number k.
+    fn turn_at(&self, k: usize, v: usize) -> Turn
+        requires ready { Ready self.now }
+        requires number { (1 ≤ k) × (k ≤ self.now.count + 1) }
+        requires variable { v < length self.now.sizes.now }
+        ensures value_value { result.value ≡ value_at self.now.sizes.now (action_of self.now).nodes k v (get_or self.now.sizes.now v 0) }
+        ensures next_value { result.next ≡ next_at self.now.sizes.now (action_of self.now).nodes k v result.value }
+        ensures le_next { (1 ≤ result.next) × (result.next ≤ self.now.count + 1) }
+    {
+        if self.count < k {
+            return Turn {
+                value: UNPASSED,
+                next: k,
+            };
+        }
+        let node = offset_at(self.nodes, k - 1);
+        if (self.file[node] as usize) != v {
+            return Turn {
+                value: UNPASSED,
+                next: k,
+            };
+        }
+        let value = first_costing(self.file, node, self.sizes[v], self.table, self.table[k]);
+        Turn {
+            value,
+            next: self.file[node + (1 + Task::EDGE_BYTES * (value as usize))] as usize,
+        }
     }
 }

@@ -3,13 +3,14 @@ ghost use Rattle.std.specs.Prelude.{◌≡◌, ℕ, ◌≤◌, ◌<◌, length, 
 ghost use Rattle.facts.specs.Partial.{partial_at};
 ghost use Rattle.estimate.specs.Number.{number};
 ghost use Rattle.estimate.specs.Additive.{additive};
-ghost use Rattle.estimate.specs.Ranks.{rank_number, HasRanks, Roomy, Fresh, Fell};
-ghost use Rattle.estimate.specs.InTurn.{after_own, InTurn};
+ghost use Rattle.estimate.specs.Ranks.{rank_number, HasRanks, Fell};
+ghost use Rattle.estimate.specs.InTurn.{after_own};
 ghost use Rattle.taskfile.specs.Row.{own_from};
 ghost use Rattle.relaxation.specs.EstimateInPlace.{achiever_in, achievers_in, Priceable, Estimable};
 
 use estimate::Est;
-use estimate::ranks::{NEVER, UNSET, sum_rank};
+use estimate::ranks::{NEVER, sum_rank};
+use offers::rounds::Achievers;
 use price::least_from;
 use probefile::Probe;
 use taskfile::Task;
@@ -39,69 +40,47 @@ pub fn settle(
     requires { Estimable file.now sizes.now goal count row.now }
     ensures { number result ≡ additive sizes.now (achievers_in file.now sizes.now row.now 0 count) (partial_at file.now goal) state.now }
 {
+    let actions = Actions {
+        file,
+        sizes,
+        count,
+        row,
+    };
     if sizes.len() <= FEWEST {
-        let mut fewest = [UNSET; FEWEST_FACTS];
-        return settle_in(file, sizes, goal, count, row, state, &mut fewest);
+        return offers::rounds::settle::<FEWEST_FACTS, _>(&actions, file, sizes, goal, state);
     }
-    settle_more(file, sizes, goal, count, row, state)
-}
-
-// The same for a task that may have more variables.
-fn settle_more(
-    file: &[u8],
-    sizes: &[u8],
-    goal: usize,
-    count: usize,
-    row: &[usize],
-    state: &[u8],
-) -> Est
-    requires { Estimable file.now sizes.now goal count row.now }
-    ensures { number result ≡ additive sizes.now (achievers_in file.now sizes.now row.now 0 count) (partial_at file.now goal) state.now }
-{
     if sizes.len() <= FEW {
-        let mut few = [UNSET; FEW_FACTS];
-        return settle_in(file, sizes, goal, count, row, state, &mut few);
+        return offers::rounds::settle::<FEW_FACTS, _>(&actions, file, sizes, goal, state);
     }
-    let mut ranks = [UNSET; FACTS];
-    settle_in(file, sizes, goal, count, row, state, &mut ranks)
+    offers::rounds::settle::<FACTS, _>(&actions, file, sizes, goal, state)
 }
 
-// The same in fresh ranks, to which the numbers of the start are lent: offers until no rank falls; then the last numbers are put back into an array, and the goal facts' sum is taken from it. There is one such array, lent and not copied, as the stack has to hold it.
-fn settle_in(
-    file: &[u8],
-    sizes: &[u8],
-    goal: usize,
+// The first `count` actions of a task, by the row of the index.
+#[derive(Clone, Copy)]
+struct Actions<'a> {
+    file: &'a [u8],
+    sizes: &'a [u8],
     count: usize,
-    row: &[usize],
-    state: &[u8],
-    ranks: &mut [u64],
-) -> Est
-    requires { Estimable file.now sizes.now goal count row.now × Roomy sizes.now (length ranks.old) × Fresh ranks.old }
-    ensures { number result ≡ additive sizes.now (achievers_in file.now sizes.now row.now 0 count) (partial_at file.now goal) state.now }
-{
-    offers::start_in(state, ranks);
-    loop {
-        if offer_actions(file, sizes, count, row, ranks) {
-            continue;
-        }
-        let mut last = [Est::Never; Probe::FACTS];
-        offers::put_back_in(&mut last, sizes, ranks);
-        return offers::goal_sum_in(file, goal, sizes.len(), &last);
-    }
+    row: &'a [usize],
 }
 
-// All actions offer in turn, each by the numbers as they are then; whether a rank fell.
-fn offer_actions(file: &[u8], sizes: &[u8], count: usize, row: &[usize], ranks: &mut [u64]) -> bool
-    requires { (count ≤ length row.now) × ((a : ℕ) → a < count → Priceable file.now sizes.now (get_or row.now a 0) (drop (own_from row.now a) row.now)) }
-    ensures { InTurn (length sizes.now) (achievers_in file.now sizes.now row.now 0 count) ranks.old ranks.new result }
-{
-    let mut fell = false;
-    for a in 0..count {
-        let own = own_nodes(row, a);
-        let more = offer_action(file, sizes, row[a], &row[own..], ranks);
-        fell = fell || more;
+impl Achievers for Actions<'_> {
+    ghost ready = { λ s. (s.count ≤ length s.row.now) × ((a : ℕ) → a < s.count → Priceable s.file.now s.sizes.now (get_or s.row.now a 0) (drop (own_from s.row.now a) s.row.now)) };
+
+    ghost variables = { λ s. length s.sizes.now };
+
+    ghost achievers = { λ s. achievers_in s.file.now s.sizes.now s.row.now 0 s.count };
+
+    fn offer(&self, ranks: &mut [u64]) -> bool {
+        let mut fell = false;
+        for a in 0..self.count {
+            let own = own_nodes(self.row, a);
+            if offer_action(self.file, self.sizes, self.row[a], &self.row[own..], ranks) {
+                fell = true;
+            }
+        }
+        fell
     }
-    fell
 }
 
 // The same for the action at an offset, whose own nodes begin at the offsets `nodes`.

@@ -1,6 +1,6 @@
 // Relaxed costs in place: the least cost of an action over the states of a relaxed state that meet its precondition, by one pass over its nodes from the last to the first.
-ghost use Rattle.std.specs.Prelude.{◌≡◌, ◌+◌, ◌*◌, ◌≤◌, min, length, get_or};
-ghost use Rattle.facts.specs.Answers.{checked_answer};
+ghost use Rattle.std.specs.Prelude.{◌≡◌, ◌+◌, ◌*◌, ◌≤◌, length, get_or};
+ghost use Rattle.facts.specs.Answers.{answer};
 ghost use Rattle.taskfile.specs.Task.{max_variables, max_values, max_nodes, max_weight};
 ghost use Rattle.taskfile.specs.Blank.{file_of};
 ghost use Rattle.taskfile.specs.Index.{Ready};
@@ -9,14 +9,13 @@ ghost use Rattle.relaxation.specs.Relaxed.{SetInside};
 ghost use Rattle.relaxation.specs.Pass.{least_at};
 ghost use Rattle.relaxation.specs.RelaxedPass.{relaxed_pass, relaxed_by_pass};
 ghost use Rattle.relaxation.specs.RelaxedInPlace.{cost_for, greatest, Relaxable};
-ghost use Rattle.taskfile.specs.Answers.{costed_answer};
 ghost use Rattle.relaxation.specs.RelaxedTask.{check_relaxed, relaxed_in, relaxed_task};
 
+use facts::Refusal;
 use facts::number::{byte_at, offset_at};
-use facts::{Checked, Refusal};
 use narrow::narrow;
 use partial::stray;
-use taskfile::{Costed, Task};
+use taskfile::Task;
 use walk::{diagram_at, edge_for, own_nodes};
 
 // Above every cost.
@@ -30,55 +29,53 @@ pub fn relaxed_in(
     row: &[usize],
     action: usize,
     sets: &[u8],
-) -> Costed
+) -> Result<u32, Refusal>
     requires { Ready file.now variables actions row.now }
-    ensures { costed_answer result ≡ relaxed_task (file_of file.now) action sets.now }
+    ensures { answer result ≡ relaxed_task (file_of file.now) action sets.now }
 {
     if actions <= action {
-        return Costed::Refused(Refusal::Missing(0));
+        return Err(Refusal::Missing(0));
     }
     let last = 1 + variables;
     let sizes = &file[1..last];
-    match check_sets(sizes, sets) {
-        Checked::Refused(why) => Costed::Refused(why),
-        Checked::Accepted => {
-            let own = own_nodes(row, action);
-            met_at(file, sizes, offset_at(row, action), &row[own..], sets)
-        }
-    }
+    check_sets(sizes, sets)?;
+    let own = own_nodes(row, action);
+    met_at(file, sizes, offset_at(row, action), &row[own..], sets)
 }
 
 // The relaxed cost of the action at an offset, whose own nodes begin at the offsets `nodes`: 17, and then one pass with the sets narrowed in a copy.
-fn met_at(file: &[u8], sizes: &[u8], at: usize, nodes: &[usize], sets: &[u8]) -> Costed
+fn met_at(
+    file: &[u8],
+    sizes: &[u8],
+    at: usize,
+    nodes: &[usize],
+    sets: &[u8],
+) -> Result<u32, Refusal>
     requires { Relaxable file.now sizes.now at nodes.now sets.now × (length sets.now ≤ max_variables) }
-    ensures { costed_answer result ≡ relaxed_in (action_in file.now sizes.now at nodes.now) sets.now }
+    ensures { answer result ≡ relaxed_in (action_in file.now sizes.now at nodes.now) sets.now }
 {
     let mut copy = [0; Task::MAX_VARIABLES];
     let n = sets.len();
-    match narrow(file, at, sets, &mut copy[..n]) {
-        Checked::Refused(why) => Costed::Refused(why),
-        Checked::Accepted => Costed::Cost(relaxed_at(file, sizes, at, nodes, &copy[..n])),
-    }
+    narrow(file, at, sets, &mut copy[..n])?;
+    Ok(relaxed_at(file, sizes, at, nodes, &copy[..n]))
 }
 
 // Whether a relaxed state has a set for each variable that is not empty and has no stray bit: 12 for its length, then 4 at the lowest variable.
-fn check_sets(sizes: &[u8], sets: &[u8]) -> Checked
-    ensures { checked_answer result ≡ check_relaxed sizes.now sets.now }
+fn check_sets(sizes: &[u8], sets: &[u8]) -> Result<(), Refusal>
+    ensures { answer result ≡ check_relaxed sizes.now sets.now }
 {
     if sets.len() != sizes.len() {
-        return Checked::Refused(Refusal::Width(0));
+        return Err(Refusal::Width(0));
     }
-    let mut v: usize = 0;
-    while v < sizes.len() {
+    for v in 0..sizes.len() {
         if sets[v] == 0 {
-            return Checked::Refused(Refusal::Outside(v));
+            return Err(Refusal::Outside(v));
         }
         if stray(sets[v] as u64, sizes[v] as usize) {
-            return Checked::Refused(Refusal::Outside(v));
+            return Err(Refusal::Outside(v));
         }
-        v += 1;
     }
-    Checked::Accepted
+    Ok(())
 }
 
 // The least cost of the action at an offset, whose own nodes begin at the offsets `nodes`, over all states in the sets. Entry k of the table is the least from
@@ -89,11 +86,8 @@ fn relaxed_at(file: &[u8], sizes: &[u8], at: usize, nodes: &[usize], sets: &[u8]
 {
     let diagram = diagram_at(file, at);
     let mut least: [u32; Task::NUMBERS] = [0; Task::NUMBERS];
-    let mut k = diagram.count;
-    while 0 < k {
-        let from = least_at(file, sizes, offset_at(nodes, k - 1), sets, &least);
-        least[k] = from;
-        k -= 1;
+    for k in (0..diagram.count).rev() {
+        least[k + 1] = least_at(file, sizes, offset_at(nodes, k), sets, &least);
     }
     diagram.incoming + least[1]
 }
@@ -113,7 +107,7 @@ fn least_at(file: &[u8], sizes: &[u8], node: usize, sets: &[u8], least: &[u32]) 
         if inside == 0 {
             continue;
         }
-        best = lesser(best, cost_for(file, node, d, least));
+        best = best.min(cost_for(file, node, d, least));
     }
     best
 }
@@ -124,25 +118,5 @@ fn cost_for(file: &[u8], node: usize, value: u8, least: &[u32]) -> u32
     ensures { (result ≡ cost_for file.now node least.now value) × (result ≤ max_weight + greatest least.now) }
 {
     let edge = edge_for(file, node, value);
-    edge.weight + entry_at(least, edge.target)
-}
-
-// The entry at an index of a table, 0 past the last.
-fn entry_at(table: &[u32], i: usize) -> u32
-    ensures { result ≡ get_or table.now i 0 }
-{
-    if table.len() <= i {
-        return 0;
-    }
-    table[i]
-}
-
-// The lesser of two costs.
-fn lesser(a: u32, b: u32) -> u32
-    ensures { result ≡ min a b }
-{
-    if b < a {
-        return b;
-    }
-    a
+    edge.weight + least.get(edge.target).copied().unwrap_or(0)
 }

@@ -1,13 +1,11 @@
--- `narrow::next_value` meets its contract: the bit, then the end of the file. Assumes nothing.
+-- `narrow::next_value` meets its contract: the bit, then the end of the file.
 use Prim.Native.Nat.{◌%◌}
-use native.Mathlib.Omega.{arith}
-use Rattle.narrow.specs.LoopLaws.{next_cut, next_there}
+use mathlib.Core.Path.{◌∙◌}
+use Rattle.facts.specs.AnswerLaws.{copied_at}
+use Rattle.narrow.specs.LoopLaws.{next_stands}
 use Rattle.narrow.proofs.next_value.Goals as goal
-
-pub returns-then-file-at : goal.returns-then-file-at
-returns-then-file-at c = let a = c.args in next_cut (a.map % 2) a.file.now a.at c.if-file-at.true
 
 pub returns : goal.returns
 returns c =
-    let a = c.args in
-    next_there (a.map % 2) a.file.now a.at c.if-map-eq0.false (omega (arith, c.if-file-at.false))
+    let read = c.get.ensures.lookup in
+    c.copied.ensures ∙ copied_at c.args.file.now c.args.at c.get.result read.0 read.1 ∙ next_stands (c.args.map % 2) _ c.if-map-eq0.false

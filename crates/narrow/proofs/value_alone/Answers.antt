@@ -1,4 +1,4 @@
--- `narrow::value_alone` meets its contract: a byte has no bit from 8 on, and one bit below stays in it. Assumes nothing.
+-- `narrow::value_alone` meets its contract: a byte has no bit from 8 on, and one bit below stays in it.
 use mathlib.Core.Path.{sym}
 use Rattle.relaxation.specs.KeptLaws.{alone_beyond}
 use Rattle.narrow.proofs.value_alone.Goals as goal

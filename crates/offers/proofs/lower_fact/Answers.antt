@@ -1,4 +1,4 @@
--- `offers::lower_fact` meets its contract: no fact without room has a rank, and one with room is lowered. Assumes nothing.
+-- `offers::lower_fact` meets its contract: no fact without room has a rank, and one with room is lowered.
 use native.Mathlib.Omega.{arith}
 use Rattle.estimate.specs.RanksLaws.{fact_no_room}
 use Rattle.offers.proofs.lower_fact.Goals as goal

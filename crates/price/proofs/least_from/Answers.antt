@@ -1,4 +1,5 @@
--- `price::least_from` meets its contract: the table has the rank of the least from each number above k on. Assumes nothing.
+-- `price::least_from` meets its contract: the table has the rank of the least from each number above k on.
+use Prim.Native.Nat.{◌-◌, ◌<◌}
 use mathlib.Core.Path.{refl, ◌∙◌}
 use lib.ListN.{length-set}
 use native.Mathlib.Omega.{arith}
@@ -9,15 +10,16 @@ use Rattle.relaxation.specs.SumsLaws.{apart_start, apart_set}
 use Rattle.price.proofs.least_from.Goals as goal
 
 pub loop-k-init : goal.loop-k-init
-loop-k-init c = (omega arith, refl, ranked_start c.requires (rank_number c.args.ranks.now) max_numbers refl, apart_start max_numbers)
+loop-k-init c = record { long = refl; filled = ranked_start c.requires (rank_number c.args.ranks.now) max_numbers refl; apart = apart_start max_numbers }
 
 pub loop-k-preserved : goal.loop-k-preserved
 loop-k-preserved c =
     let l = c.loop-k in
     let e = c.least_rank.result in
-    let up = c.loop-k-test.true in (
-      omega (arith, l.invariant.0),
-      length-set l.least l.k e ∙ l.invariant.1,
-      ranked_next c.requires (rank_number c.args.ranks.now) e (omega (arith, l.invariant.0, up)) c.offset_at.ensures (omega (arith, up)) l.invariant.2 (omega (arith, l.invariant.0, l.invariant.1, c.requires.few)) c.least_rank.ensures.result_value,
-      apart_set l.invariant.3 c.least_rank.ensures.settled (omega (arith, l.invariant.0, l.invariant.1, c.requires.few)),
-    )
+    let least = c.least_rank.ensures in
+    let low : l.k - 1 < c.args.count = omega (arith, l.auto.k) in
+    record {
+      long = length-set l.least _ e ∙ l.invariant.long;
+      filled = ranked_next c.requires (rank_number c.args.ranks.now) e low c.offset_at.ensures (omega arith) (record { at = λ t h. l.invariant.filled.at t (omega arith) }) (omega (arith, l.invariant.long, c.requires.few)) least.result_value;
+      apart = apart_set l.invariant.apart least.settled (omega (arith, l.invariant.long, c.requires.few));
+    }

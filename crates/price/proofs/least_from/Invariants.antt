@@ -1,4 +1,3 @@
-use Prim.Native.Nat.{◌≤◌}
 use mathlib.Core.Path.{◌≡◌}
 use lib.ListN.{length}
 use Rattle.taskfile.specs.Task.{max_numbers}
@@ -11,7 +10,8 @@ use Rattle.relaxation.specs.Sums.{Apart}
 use Rattle.price.proofs.least_from.Given as goal
 
 abbrev pub invariant-loop-k : goal.invariant-loop-k
-invariant-loop-k l = (l.k ≤ l.count) × (length l.least ≡ max_numbers) × Filled (number_pass l.sizes (rank_number l.ranks)) ranked (nodes_in l.file l.sizes l.nodes 0 l.count) l.k l.least × Apart l.least
-
-abbrev pub decreases-loop-k : goal.decreases-loop-k
-decreases-loop-k l = l.k
+invariant-loop-k l = record {
+  long : length l.least ≡ max_numbers;
+  filled : Filled (number_pass l.sizes (rank_number l.ranks)) ranked (nodes_in l.file l.sizes l.nodes 0 l.count) l.k l.least;
+  apart : Apart l.least;
+}

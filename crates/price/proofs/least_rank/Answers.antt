@@ -1,4 +1,4 @@
--- `price::least_rank` meets its contract: all values of the node's variable, inside the file or not. Assumes nothing.
+-- `price::least_rank` meets its contract: all values of the node's variable, inside the file or not.
 use mathlib.Core.Path.{sym, ◌∙◌}
 use native.Mathlib.Omega.{arith}
 use Rattle.estimate.specs.NumberLaws.{ranked_never}

@@ -1,8 +1,10 @@
--- `probe_estimate::estimate_from` meets its contract: the state is turned down, or rounds answer. Assumes nothing.
+-- `probe_estimate::estimate_from` meets its contract: the state is turned down, or rounds answer.
 use Prim.Native.Nat.{ℕ, ◌+◌, ◌-◌, ◌*◌}
 use mathlib.Core.Path.{◌≡◌, sym, ap, ◌∙◌}
 use native.Mathlib.Omega.{arith}
-use Rattle.facts.specs.Answers.{checked_answer}
+use Rattle.facts.specs.Read.{with_value}
+use Rattle.facts.specs.AnswerLaws.{handed}
+use Rattle.estimate.specs.Number.{number}
 use Rattle.probe_estimate.specs.EstimateLaws.{ready, turned_down, answered}
 use Rattle.probe_estimate.proofs.estimate_from.Goals as goal
 
@@ -16,8 +18,9 @@ twice n = omega arith
 pub settle-requires : goal.settle-requires
 settle-requires c = ready c.requires (less_one c.args.variables) (twice c.args.variables)
 
-pub returns-in-Refused : goal.returns-in-Refused
-returns-in-Refused c = sym (turned_down c.requires (less_one c.args.variables) (twice c.args.variables) _ (sym c.check_state.ensures ∙ ap checked_answer c.in-Refused.is))
+pub returns-in_err-check_state : goal.returns-in_err-check_state
+returns-in_err-check_state c =
+    ap (with_value number) (handed _ _ c.from_residual.ensures.1) ∙ sym (turned_down c.requires (less_one c.args.variables) (twice c.args.variables) _ (sym c.in_err-check_state.ensures))
 
-pub returns-in-Accepted : goal.returns-in-Accepted
-returns-in-Accepted c = answered c.requires (less_one c.args.variables) (twice c.args.variables) _ (sym c.check_state.ensures ∙ ap checked_answer c.in-Accepted.is) c.settle.ensures
+pub returns : goal.returns
+returns c = answered c.requires (less_one c.args.variables) (twice c.args.variables) _ (sym c.in_ok-check_state.ensures) c.settle.ensures

@@ -7,7 +7,8 @@ use Rattle.dearest.specs.InPlace.{Table}
 use Rattle.task_dearest.proofs.dearest_at.Given as goal
 
 abbrev pub invariant-loop-k : goal.invariant-loop-k
-invariant-loop-k l = (l.k ≤ l.diagram.count) × (length l.table ≡ max_numbers) × (greatest l.table ≤ max_weight * (l.diagram.count - l.k)) × Table l.file l.sizes l.at l.nodes l.k l.table
-
-abbrev pub decreases-loop-k : goal.decreases-loop-k
-decreases-loop-k l = l.k
+invariant-loop-k l = record {
+  long : length l.table ≡ max_numbers;
+  most : greatest l.table ≤ max_weight * (l.diagram.count - l.k);
+  filled : Table l.file l.sizes l.at l.nodes l.k l.table;
+}

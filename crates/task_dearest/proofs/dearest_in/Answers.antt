@@ -1,4 +1,4 @@
--- `task_dearest::dearest_in` meets its contract: the number, the buffer, and then the pass and the walk by the index. Assumes nothing.
+-- `task_dearest::dearest_in` meets its contract: the number, the buffer, and then the pass and the walk by the index.
 use Prim.Native.Nat.{ℕ, ◌+◌, ◌-◌}
 use mathlib.Core.Path.{◌≡◌, refl, sym, ap, ap₂, ◌∙◌}
 use mathlib.Core.List.{List, ◌++◌}

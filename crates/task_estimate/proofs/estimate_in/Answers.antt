@@ -1,8 +1,10 @@
--- `task_estimate::estimate_in` meets its contract: the state is turned down, or rounds answer. Assumes nothing.
+-- `task_estimate::estimate_in` meets its contract: the state is turned down, or rounds answer.
 use Prim.Native.Nat.{ℕ, ◌+◌, ◌*◌, ◌-◌}
 use mathlib.Core.Path.{◌≡◌, sym, ap, ◌∙◌}
 use native.Mathlib.Omega.{arith}
-use Rattle.facts.specs.Answers.{checked_answer}
+use Rattle.facts.specs.Read.{with_value}
+use Rattle.facts.specs.AnswerLaws.{handed}
+use Rattle.estimate.specs.Number.{number}
 use Rattle.taskfile.proofs.AnswerLaws.{starts}
 use Rattle.relaxation.specs.EstimateTaskLaws.{estimable, turned_down}
 use Rattle.relaxation.proofs.EstimateTaskLaws.{answered}
@@ -21,11 +23,12 @@ overflow_add-init c = omega (arith, (starts _ c.requires).fits)
 pub slice_bounds-sizes-end : goal.slice_bounds-sizes-end
 slice_bounds-sizes-end c = omega (arith, (starts _ c.requires).fits)
 
-pub settle-number-requires : goal.settle-number-requires
-settle-number-requires c = estimable c.args.file.now c.requires (less_one c.args.variables) (twice c.args.variables)
+pub settle-requires : goal.settle-requires
+settle-requires c = estimable c.args.file.now c.requires (less_one c.args.variables) (twice c.args.variables)
 
-pub returns-in-Refused : goal.returns-in-Refused
-returns-in-Refused c = sym (turned_down c.args.file.now c.requires (less_one c.args.variables) (twice c.args.variables) c.args.state.now (sym c.check_state.ensures ∙ ap checked_answer c.in-Refused.is))
+pub returns-in_err-check_state : goal.returns-in_err-check_state
+returns-in_err-check_state c =
+    ap (with_value number) (handed _ _ c.from_residual.ensures.1) ∙ sym (turned_down c.args.file.now c.requires (less_one c.args.variables) (twice c.args.variables) c.args.state.now (sym c.in_err-check_state.ensures))
 
-pub returns-in-Accepted : goal.returns-in-Accepted
-returns-in-Accepted c = answered c.args.file.now c.requires (less_one c.args.variables) (twice c.args.variables) c.args.state.now (sym c.check_state.ensures ∙ ap checked_answer c.in-Accepted.is) c.settle-number.ensures
+pub returns : goal.returns
+returns c = answered c.args.file.now c.requires (less_one c.args.variables) (twice c.args.variables) c.args.state.now (sym c.in_ok-check_state.ensures) c.settle.ensures

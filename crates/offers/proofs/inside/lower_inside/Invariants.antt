@@ -5,10 +5,9 @@ use Rattle.estimate.specs.Ranks.{rank_number, Inside, Fell, after_offer}
 use Rattle.estimate.specs.OfferLaws.{Offering}
 use Rattle.offers.proofs.inside.lower_inside.Given as goal
 
-abbrev pub invariant-loop-rest : goal.invariant-loop-rest
-invariant-loop-rest l = Fell l.initial.ranks l.ranks l.fell
-    × Inside l.file l.at l.rest (length l.initial.ranks)
-    × Offering (ranked l.offer) l.file l.rest l.at (after_offer (record { effect = standing_at l.file l.map l.from; number = ranked l.offer }) (rank_number l.initial.ranks)) l.ranks
-
-abbrev pub decreases-loop-rest : goal.decreases-loop-rest
-decreases-loop-rest l = l.rest
+abbrev pub invariant-loop-v : goal.invariant-loop-v
+invariant-loop-v l =
+    (goal.iterator-loop-v).can_next l.v-iterator × (goal.iterator-loop-v).is_finite l.v-iterator
+    × Fell l.initial.ranks l.ranks l.fell
+    × Inside l.file l.at l.v-iterator.rest (length l.initial.ranks)
+    × Offering (ranked l.offer) l.file l.v-iterator.rest l.at (after_offer (record { effect = standing_at l.file l.map l.from; number = ranked l.offer }) (rank_number l.initial.ranks)) l.ranks

@@ -1,4 +1,4 @@
--- `task_dearest::edge::cost_by` meets its contract: the edge lies inside the file, its target is a number of the table, and no entry is greater than the greatest. Assumes nothing.
+-- `task_dearest::edge::cost_by` meets its contract: the edge lies inside the file, its target is a number of the table, and no entry is greater than the greatest.
 use Prim.Native.Nat.{◌+◌, ◌*◌, ◌≤◌}
 use mathlib.Core.Path.{ap₂, refl}
 use native.Mathlib.Omega.{arith}

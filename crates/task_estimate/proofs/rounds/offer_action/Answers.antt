@@ -1,4 +1,4 @@
--- `task_estimate::rounds::offer_action` meets its contract: the precondition's sum and the least cost are offered to the effect, and never to none. Assumes nothing.
+-- `task_estimate::rounds::offer_action` meets its contract: the precondition's sum and the least cost are offered to the effect, and never to none.
 use mathlib.Core.Path.{sym, ap, ap₂, ◌∙◌}
 use native.Mathlib.Omega.{arith}
 use Rattle.estimate.specs.Number.{sum, ranked}

@@ -1,4 +1,4 @@
--- `task_relaxed::relaxed::least_at` meets its contract: the best so far and the values that are left are together all values of the set. Assumes nothing.
+-- `task_relaxed::relaxed::least_at` meets its contract: the best so far and the values that are left are together all values of the set.
 use mathlib.Core.Path.{◌∙◌}
 use native.Mathlib.Omega.{arith}
 use Rattle.relaxation.specs.RelaxedInPlaceLaws.{set_read, size_read, least_in_place, choosing_start, choosing_out, choosing_in, choosing_end}
@@ -9,26 +9,23 @@ loop-d-init c =
     let a = c.args in
     let v = c.byte_at-variable.ensures in
     let n = c.byte_at-size.ensures in
-    let set = c.byte_at-rest.ensures in (
-      omega arith,
-      choosing_start (omega arith)
-          (set_read a.file.now a.sizes.now a.sets.now a.least.now a.node c.requires.0 c.requires.1 v n set)
-          (size_read a.file.now a.sizes.now a.sets.now a.least.now a.node c.requires.0 c.requires.1 v n set),
-    )
+    let set = c.byte_at-rest.ensures in
+    choosing_start (omega arith)
+    (set_read a.file.now a.sizes.now a.sets.now a.least.now a.node c.requires.0 c.requires.1 v n set)
+    (size_read a.file.now a.sizes.now a.sets.now a.least.now a.node c.requires.0 c.requires.1 v n set)
 
 pub loop-d-preserved-then-inside-eq0 : goal.loop-d-preserved-then-inside-eq0
-loop-d-preserved-then-inside-eq0 c = let l = c.loop-d in (omega arith, choosing_out l.invariant.1 (omega arith) (omega arith) c.if-inside-eq0.true)
+loop-d-preserved-then-inside-eq0 c = choosing_out c.loop-d.invariant (omega arith) (omega arith) c.if-inside-eq0.true
 
 pub loop-d-preserved : goal.loop-d-preserved
 loop-d-preserved c =
-    let l = c.loop-d in
     let cost = c.cost_for.ensures in
-    (omega arith, choosing_in l.invariant.1 (omega arith) (omega arith) (omega (arith, c.if-inside-eq0.false)) cost.0 cost.1 c.lesser-best.ensures)
+    choosing_in c.loop-d.invariant (omega arith) (omega arith) (omega (arith, c.if-inside-eq0.false)) cost.0 cost.1 c.min-best.ensures
 
 pub returns : goal.returns
 returns c =
     let a = c.args in
-    let best = choosing_end c.loop-d.invariant.1 (omega arith) (omega (arith, c.requires)) in (
+    let best = choosing_end c.loop-d.invariant (omega arith) (omega (arith, c.requires)) in (
       best.0 ∙ least_in_place a.file.now a.sizes.now a.sets.now a.least.now a.node c.requires.0 c.requires.1 c.byte_at-variable.ensures c.byte_at-size.ensures c.byte_at-rest.ensures,
       best.1,
     )

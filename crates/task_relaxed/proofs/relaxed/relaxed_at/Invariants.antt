@@ -9,7 +9,8 @@ use Rattle.relaxation.specs.RelaxedInPlace.{greatest}
 use Rattle.task_relaxed.proofs.relaxed.relaxed_at.Given as goal
 
 abbrev pub invariant-loop-k : goal.invariant-loop-k
-invariant-loop-k l = (l.k ≤ l.diagram.count) × (length l.least ≡ max_numbers) × (greatest l.least ≤ max_weight * (l.diagram.count - l.k)) × Filled (relaxed_pass l.sets) (λ n. n) (action_in l.file l.sizes l.at l.nodes).nodes l.k l.least
-
-abbrev pub decreases-loop-k : goal.decreases-loop-k
-decreases-loop-k l = l.k
+invariant-loop-k l = record {
+  long : length l.least ≡ max_numbers;
+  most : greatest l.least ≤ max_weight * (l.diagram.count - l.k);
+  filled : Filled (relaxed_pass l.sets) (λ n. n) (action_in l.file l.sizes l.at l.nodes).nodes l.k l.least;
+}

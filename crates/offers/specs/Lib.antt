@@ -1,0 +1,2 @@
+-- What rounds of offers are about.
+pub mod Rounds

@@ -1,0 +1,2 @@
+-- What the code's choice among the values of a variable is about.
+pub mod Choice
