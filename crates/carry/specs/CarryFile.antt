@@ -1,6 +1,5 @@
 -- The operations: plans carried across between a task file and the probe file written from it. Document 01, "Carrying plans across", "Turned down".
-use Rattle.std.specs.Prelude.{ℕ, zero, suc, List, [], ◌∷◌}
-use Rattle.std.proofs.Math.Option.{none, some}
+use Rattle.std.specs.Prelude.{ℕ, zero, suc, List, [], ◌∷◌, None, Some}
 use Rattle.facts.specs.Read.{Read, accepted, refused, with_value, ◌>>=◌}
 use Rattle.facts.specs.Write.{length_in, written_in}
 use Rattle.facts.specs.Run.{at_most}
@@ -24,8 +23,8 @@ abbrev pub starts_at_most : List Action → ℕ → ℕ → List ℕ → Read (U
 starts_at_most actions most i [] = accepted tt
 starts_at_most actions most i (r ∷ list) =
     elim (started_by 0 0 actions r) [
-      | none ↦ starts_at_most actions most (suc i) list
-      | some a ↦ elim most [ zero ↦ refused 8 i | suc left ↦ starts_at_most actions left (suc i) list ]
+      | None ↦ starts_at_most actions most (suc i) list
+      | Some a ↦ elim most [ zero ↦ refused 8 i | suc left ↦ starts_at_most actions left (suc i) list ]
     ]
 
 -- the list of actions that a probe list comes from, and its sum: 1 to 6 for the file, 8, then per step 11 before 9, 10 at the end, and 8 for more

@@ -1,6 +1,5 @@
 -- Definitions.
 pub mod CarryFile
-pub mod Answers
 -- Laws that the statement rests on.
 pub mod StartLaws
 pub mod SameSumLaws

@@ -3,7 +3,7 @@
 
 ghost use Rattle.std.specs.Prelude.{◌≡◌, length};
 
-use carry::Carried;
+use facts::Refusal;
 use probefile::Probe;
 use taskfile::Task;
 
@@ -73,11 +73,9 @@ fn repeated() -> [u16; 3 * REPEATS]
     ensures { 771 ≡ length result }
 {
     let mut list = [3; 3 * REPEATS];
-    let mut i: usize = 0;
-    while i < REPEATS {
+    for i in 0..REPEATS {
         list[3 * i] = 0;
         list[3 * i + 1] = 2;
-        i += 1;
     }
     list[1] = 1;
     list
@@ -96,31 +94,17 @@ fn show_contracted(rt: &impl Print, list: &[u16]) {
 }
 
 // The answer, and the first entries of the buffer afterwards.
-fn show_carried(rt: &impl Print, answer: Carried, out: &[u16]) {
+fn show_carried(rt: &impl Print, answer: Result<(usize, u32), Refusal>, out: &[u16]) {
     match answer {
-        Carried::Refused(why) => show::refusal(rt, why),
-        Carried::List(length, sum) => {
+        Err(why) => show::refusal(rt, why),
+        Ok((length, sum)) => {
             let _ = rt.print(length as u64);
             show::count(rt, b" entries, sum", sum);
         }
     }
-    show_entry(rt, out, 0);
-    show_entry(rt, out, 1);
-    show_entry(rt, out, 2);
-    show_entry(rt, out, 3);
-    show_entry(rt, out, 4);
-    show_entry(rt, out, 5);
-    let _ = rt.write_all(b"\n");
-}
-
-// An entry, where there is one.
-fn show_entry(rt: &impl Print, out: &[u16], i: usize) {
-    if i < out.len() {
+    for entry in out.iter().take(6) {
         let _ = rt.write_all(b" ");
-        let _ = rt.print(wide(out[i]));
+        let _ = rt.print(u64::from(*entry));
     }
-}
-
-fn wide(entry: u16) -> u64 {
-    entry as u64
+    let _ = rt.write_all(b"\n");
 }

@@ -1,6 +1,7 @@
 -- Laws of the charge: the closed form, and that a larger sum is charged no less.
 use Rattle.std.specs.Prelude.{ℕ, zero, suc, ◌+◌, ◌≤◌, ◌<◌, ◌≡◌, refl, Bool, true, false, ltb}
-use Rattle.std.proofs.Common.{◌∙◌, arith, ltb-true, ltb-false}
+use Rattle.std.proofs.Common.{◌∙◌, sym, ap, arith, ltb-true, ltb-false}
+use Rattle.std.specs.Int.{div_ceil}
 use Rattle.charge.specs.Charge.{started_of, rate_of, tariff, charge_of}
 use Rattle.charge.specs.ChargeLaws.{closed_form, charge_tariff}
 
@@ -41,3 +42,14 @@ tariff_most sum l e = omega (arith, e, tariff_closed (started_of sum))
 
 pub charge_most : (sum : ℕ) → sum ≤ 4294967295 → charge_of sum ≤ 21475450
 charge_most sum l = tariff_most sum l (charge_tariff sum)
+
+-- ---- as the code has it: the started thousands by a division that rounds up
+
+started_ceil : (sum : ℕ) → div_ceil sum 1000 ≡ started_of sum
+started_ceil sum = omega arith
+
+pub paid_most : (started : ℕ) {paid : ℕ} → started ≤ 4294968 → paid ≡ tariff started → paid ≤ 21475450
+paid_most started l e = omega (arith, e, tariff_closed started)
+
+pub paid_charge : (sum started : ℕ) {paid : ℕ} → started ≡ div_ceil sum 1000 → paid ≡ tariff started → paid ≡ charge_of sum
+paid_charge sum started s e = e ∙ ap tariff (s ∙ started_ceil sum) ∙ sym (charge_tariff sum)

@@ -12,10 +12,11 @@ struct Band {
 }
 
 // The charge for a sum, in cents.
+#[tactic(auto, using(crate::proofs::ChargeLaws::paid_most, crate::proofs::ChargeLaws::paid_charge))]
 pub fn charge(sum: u32) -> u32
     ensures { result ≡ charge_of sum }
 {
-    let started = (sum as u64 + 999) / 1000;
+    let started = u64::from(sum).div_ceil(1000);
     let band = band_of(started);
     (band.base + band.rate * started) as u32
 }

@@ -1,13 +1,10 @@
 -- The operation: the probe file of a task file, written into a buffer. Document 01, "The probe file", "Turned down".
 use Rattle.std.specs.Prelude.{ℕ, List}
-use Rattle.facts.specs.Read.{Read, accepted, refused, with_value}
-use Rattle.facts.specs.Refusal.{number, place}
+use Rattle.facts.specs.Read.{Read, with_value}
 use Rattle.facts.specs.Write.{length_in, written_in}
 use Rattle.taskfile.specs.Task.{Task}
 use Rattle.taskfile.specs.TaskFile.{read_task}
 use Rattle.probefile.specs.ProbeFile.{write_probe}
-use Rattle.compilation.specs.declared.Compiled.{Compiled}
-use Rattle.compilation.specs.declared.Compiled.TheVariants.{Length, Refused as NotCompiled}
 use Rattle.compilation.specs.Compile.{probe_of}
 
 -- the bytes of the probe file of a task file; 1 to 6 for the file
@@ -20,8 +17,3 @@ compile_file f room = length_in room (probe_file_of f)
 
 abbrev pub compiled_buffer : List ℕ → List ℕ → List ℕ
 compiled_buffer f out = written_in out (probe_file_of f)
-
--- what the answer means
-abbrev pub compiled_answer : Compiled → Read ℕ
-compiled_answer (Length n) = accepted n
-compiled_answer (NotCompiled why) = refused (number why) (place why)

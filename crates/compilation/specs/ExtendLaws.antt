@@ -1,20 +1,11 @@
 -- Laws of partial states over longer states, with one more fact, and with a row of zeros.
-use Rattle.std.specs.Prelude.{◌≡◌, refl, ℕ, zero, suc, ◌+◌, ◌/◌, ◌%◌, ◌^◌, ◌≤◌, ◌<◌, Bool, true, false, ◌&&◌, List, [], ◌∷◌, ◌++◌, eqb, length, get_or, set}
+use Rattle.std.specs.Prelude.{◌≡◌, refl, ℕ, zero, suc, ◌+◌, ◌/◌, ◌%◌, ◌^◌, ◌≤◌, ◌<◌, Bool, true, ◌&&◌, List, [], ◌∷◌, ◌++◌, eqb, length, get_or, set}
 use Rattle.std.proofs.Common.{sym, ap, ◌∙◌, subst, arith, length-append}
+use Rattle.std.proofs.Math.Bool.{and-true, and_assoc}
 use Rattle.std.proofs.Math.Seq.{append_snoc, get_or-append_seam}
 use Rattle.facts.specs.Partial.{Partial, agrees, after, rest, above, holds, apply, empty}
 use Rattle.facts.specs.PartialLaws.{Has, Below, holds_empty, apply_empty}
 use Rattle.compilation.specs.Extend.{extend, clear}
-
--- A test that always passes changes nothing.
-pub and_true : (a : Bool) → (a && true) ≡ a
-and_true true = refl
-and_true false = refl
-
--- Three tests may be grouped either way.
-and_assoc : (a b c : Bool) → (a && (b && c)) ≡ (a && b && c)
-and_assoc true b c = refl
-and_assoc false b c = refl
 
 -- ---- more variables
 
@@ -88,9 +79,9 @@ module _ (x : ℕ) where
   -- The extended facts hold where the old ones hold and variable v has the value.
   pub holds_extend : (v : ℕ) (p : Partial) (s : List ℕ) → Below v p → v < length s → holds (extend p v x) s ≡ (holds p s && eqb x (get_or s v 0))
   holds_extend v p [] h l = absurd (omega arith)
-  holds_extend zero p (y ∷ s) h l = rw (h, holds_empty s) (and_true (eqb x y))
+  holds_extend zero p (y ∷ s) h l = rw (h, holds_empty s) (and-true (eqb x y))
   holds_extend (suc v) p (y ∷ s) h l =
-      rw (above_extend p v h, extend_bit p.map v, agrees_snoc (p.map % 2) p.values y h.0, holds_extend v (above p) s h.1 (omega arith)) (search and_assoc)
+      rw (above_extend p v h, extend_bit p.map v, agrees_snoc (p.map % 2) p.values y h.0, holds_extend v (above p) s h.1 (omega arith)) (simp and_assoc)
 
   -- The extended facts set what the old ones set, and variable v.
   pub apply_extend : (v : ℕ) (p : Partial) (s : List ℕ) → Below v p → v < length s → apply (extend p v x) s ≡ set (apply p s) v x
@@ -108,9 +99,9 @@ all_zero (y ∷ z) = eqb 0 y && all_zero z
 
 -- The cleared facts hold where the old ones hold and each further variable has the value 0.
 pub clear_holds : (z s : List ℕ) (p : Partial) (n : ℕ) → n ≡ length s → Below n p → holds (clear p n (length z)) (s ++ z) ≡ (holds p s && all_zero z)
-clear_holds [] s p n e h = holds_append s [] p (rw e at h) ∙ sym (and_true (holds p s))
+clear_holds [] s p n e h = holds_append s [] p (rw e at h) ∙ sym (and-true (holds p s))
 clear_holds (y ∷ z) s p n e h =
     let more : suc n ≡ length (s ++ (y ∷ [])) = simp (length-append, e) (omega arith) in
     let one : holds (extend p n 0) (s ++ (y ∷ [])) ≡ (holds p s && eqb 0 y) =
     rw (holds_extend 0 n p (s ++ (y ∷ [])) h (omega arith), holds_append s (y ∷ []) p (rw e at h), e, get_or-append_seam s y [] 0) in
-    rw (← append_snoc s y z, clear_holds z (s ++ (y ∷ [])) (extend p n 0) (suc n) more (below_extend 0 n p h), one) (search and_assoc)
+    rw (← append_snoc s y z, clear_holds z (s ++ (y ∷ [])) (extend p n 0) (suc n) more (below_extend 0 n p h), one) (simp and_assoc)

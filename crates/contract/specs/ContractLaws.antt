@@ -1,8 +1,7 @@
 -- Laws of contracting in place: the actions by what was noted, and the ways in which the operation can go.
-use Rattle.std.specs.Prelude.{◌≡◌, refl, ℕ, zero, suc, ◌+◌, ◌-◌, ◌≤◌, ◌<◌, List, [], ◌∷◌, ltb, length, get_or, drop}
+use Rattle.std.specs.Prelude.{◌≡◌, refl, ℕ, zero, suc, ◌+◌, ◌-◌, ◌≤◌, ◌<◌, List, [], ◌∷◌, ltb, length, get_or, drop, Option, None, Some}
 use Rattle.std.proofs.Common.{sym, ◌∙◌, add-one, arith, drop_of_length-le, drop-cons, lt-ltb, le-ltb}
 use Rattle.std.proofs.Math.Path.{ap}
-use Rattle.std.proofs.Math.Option.{Option, none, some}
 use Rattle.facts.specs.Read.{Read, accepted, refused, check, with_value, ◌>>=◌}
 use Rattle.facts.specs.ReadLaws.{through, Made, made, not_made, bind_assoc}
 use Rattle.facts.specs.Run.{at_most}
@@ -88,17 +87,17 @@ module _ (action_of_lem : List ℕ) where
 
   module _ {actions : List Action} (n : Noted actions action_of_lem) where
     -- At a number that is no start.
-    noted_other : (r : ℕ) → started_by 0 0 actions r ≡ none → get_or action_of_lem r 0 ≡ 0
+    noted_other : (r : ℕ) → started_by 0 0 actions r ≡ None → get_or action_of_lem r 0 ≡ 0
     noted_other r e = n.notes r ∙ rw e
 
     -- At the number of the start of action a.
-    noted_start : (r : ℕ) {a : ℕ} → started_by 0 0 actions r ≡ some a → get_or action_of_lem r 0 ≡ suc a
+    noted_start : (r : ℕ) {a : ℕ} → started_by 0 0 actions r ≡ Some a → get_or action_of_lem r 0 ≡ suc a
     noted_start r e = n.notes r ∙ rw e
 
     -- One entry more: it is a start or not.
     contract_entry : (r : ℕ) (list : List ℕ) → contract_in action_of_lem list ≡ contract_of actions list → (o : Option ℕ) → started_by 0 0 actions r ≡ o → contract_in action_of_lem (r ∷ list) ≡ contract_of actions (r ∷ list)
-    contract_entry r list on none e = in_other r list (noted_other r e) ∙ on ∙ sym (contract_other actions r list e)
-    contract_entry r list on (some a) e = in_start r list (noted_start r e) ∙ ap (λ (z : List ℕ). a ∷ z) on ∙ sym (contract_start actions r list e)
+    contract_entry r list on None e = in_other r list (noted_other r e) ∙ on ∙ sym (contract_other actions r list e)
+    contract_entry r list on (Some a) e = in_start r list (noted_start r e) ∙ ap (λ (z : List ℕ). a ∷ z) on ∙ sym (contract_start actions r list e)
 
     -- The actions by what was noted are the actions started.
     contract_noted : (list : List ℕ) → contract_in action_of_lem list ≡ contract_of actions list
@@ -111,11 +110,11 @@ module _ (action_of_lem : List ℕ) where
 
     -- One entry more: it is a start or not.
     count_entry : (r : ℕ) (list : List ℕ) → Counted list → (o : Option ℕ) → started_by 0 0 actions r ≡ o → Counted (r ∷ list)
-    count_entry r list on none e count most i h =
+    count_entry r list on None e count most i h =
         count_other r list count i (noted_other r e) ∙ on count most (suc i) h ∙ rw (starts_other actions r list i most e, contract_other actions r list e)
-    count_entry r list on (some a) e count zero i h =
+    count_entry r list on (Some a) e count zero i h =
         count_start r list count i (noted_start r e) ∙ rw (le-ltb count max_list (omega arith), starts_over actions r list i e)
-    count_entry r list on (some a) e count (suc left) i h =
+    count_entry r list on (Some a) e count (suc left) i h =
         let more : suc count + length (contract_of actions list) ≡ count + suc (length (contract_of actions list)) = omega arith in
         count_start r list count i (noted_start r e) ∙ rw (lt-ltb count max_list (omega arith), starts_one actions r list i left e, contract_start actions r list e, ← more) (on (suc count) left (suc i) (omega arith))
 
@@ -176,7 +175,7 @@ module _ {f list : List ℕ} {sum : ℕ} (q : ProbePlanOf f list sum) {action_of
   noted_small r = omega (arith, noted_most noted r, (task_limits f q.task).actions)
 
   -- More than 256 actions.
-  pub contract_many : {i : ℕ} → count_in action_of_lem 0 0 list ≡ refused 8 i → contracted f list ≡ refused 8 i
+  pub contract_many : {n p : ℕ} → count_in action_of_lem 0 0 list ≡ refused n p → contracted f list ≡ refused n p
   unfolding contracted
   contract_many h = rw (q.task, q.few, q.sums, not_made size limit (sym (count_noted action_of_lem noted list) ∙ h))
 

@@ -4,32 +4,25 @@
 mod starts;
 
 ghost use Rattle.std.specs.Prelude.{◌≡◌, length};
+ghost use Rattle.facts.specs.Answers.{answer};
 ghost use Rattle.taskfile.specs.Blank.{file_of};
 ghost use Rattle.taskfile.specs.Index.{Ready};
 ghost use Rattle.carry.specs.CarryFile.{contracted, answer_in, buffer_in};
-ghost use Rattle.carry.specs.Answers.{carried_answer};
 
-use carry::Carried;
-use compilation::Compiled;
-use facts::{Ran, Refusal};
-use follow::Followed;
+use facts::Refusal;
 use index::bytes_of;
-use taskfile::{Counted, Task};
+use taskfile::Task;
 
 // Writes the list of actions that a probe list comes from: the task file's refusals, then 8, per step 11 before 9, 10 at the end, 8 for more than 256
 // actions, and 7 where the buffer is too short; a refusal changes no entry.
-pub fn contract(file: &[u8], list: &[u16], out: &mut [u16]) -> Carried
-    ensures result_value { carried_answer result ≡ answer_in (length out.old) (contracted file.now list.now) }
+pub fn contract(file: &[u8], list: &[u16], out: &mut [u16]) -> Result<(usize, u32), Refusal>
+    ensures result_value { answer result ≡ answer_in (length out.old) (contracted file.now list.now) }
     ensures out_after { out.new ≡ buffer_in out.old (contracted file.now list.now) }
 {
     let mut row = [0; Task::ROW];
-    match index::index_in(file, &mut row) {
-        Counted::Refused(why) => Carried::Refused(why),
-        Counted::Actions(variables, actions) => {
-            let bytes = bytes_of(file, &Task::BLANK);
-            contract_in(bytes, variables, actions, &row, list, out)
-        }
-    }
+    let (variables, actions) = index::index_in(file, &mut row)?;
+    let bytes = bytes_of(file, &Task::BLANK);
+    contract_in(bytes, variables, actions, &row, list, out)
 }
 
 // The same, of an accepted file by the bytes in which its task is found: a plan is followed on the task; only where a list strays from all plans its refusal is looked for on the written
@@ -41,22 +34,22 @@ fn contract_in(
     row: &[usize],
     list: &[u16],
     out: &mut [u16],
-) -> Carried
+) -> Result<(usize, u32), Refusal>
     requires { Ready file.now variables actions row.now }
-    ensures result_value { carried_answer result ≡ answer_in (length out.old) (contracted (file_of file.now) list.now) }
+    ensures result_value { answer result ≡ answer_in (length out.old) (contracted (file_of file.now) list.now) }
     ensures out_after { out.new ≡ buffer_in out.old (contracted (file_of file.now) list.now) }
 {
     let mut plan = [0; Task::MAX_LIST];
-    match follow::follow_plan(file, variables, actions, row, list, &mut plan) {
-        Followed::Astray => contract_written(file, variables, actions, row, list, out),
-        Followed::Plan(count, sum) => {
-            if out.len() < count {
-                return Carried::Refused(Refusal::Short(count));
-            }
-            numbering::put_entries(&plan[..count], out);
-            Carried::List(count, sum)
-        }
+    let followed = follow::follow_plan(file, variables, actions, row, list, &mut plan);
+    let Some((count, sum)) = followed else {
+        return contract_written(file, variables, actions, row, list, out);
+    };
+    let short = out.len() < count;
+    if short {
+        return Err(Refusal::Short(count));
     }
+    out[..count].copy_from_slice(&plan[..count]);
+    Ok((count, sum))
 }
 
 // The same, by a run of the list on the written file.
@@ -67,17 +60,13 @@ fn contract_written(
     row: &[usize],
     list: &[u16],
     out: &mut [u16],
-) -> Carried
+) -> Result<(usize, u32), Refusal>
     requires { Ready file.now variables actions row.now }
-    ensures result_value { carried_answer result ≡ answer_in (length out.old) (contracted (file_of file.now) list.now) }
+    ensures result_value { answer result ≡ answer_in (length out.old) (contracted (file_of file.now) list.now) }
     ensures out_after { out.new ≡ buffer_in out.old (contracted (file_of file.now) list.now) }
 {
     let mut written = [0; Task::MAX_WRITTEN];
-    match compile::compile_in(file, variables, actions, row, &mut written) {
-        Compiled::Refused(why) => Carried::Refused(why),
-        Compiled::Length(length) => match probe::run(&written[..length], list) {
-            Ran::Refused(why) => Carried::Refused(why),
-            Ran::Sum(sum) => starts::contract_plan(file, variables, actions, row, list, sum, out),
-        },
-    }
+    let length = compile::compile_in(file, variables, actions, row, &mut written)?;
+    let sum = probe::run(&written[..length], list)?;
+    starts::contract_plan(file, variables, actions, row, list, sum, out)
 }

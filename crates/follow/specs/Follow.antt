@@ -1,5 +1,5 @@
 -- Following a probe list in place: what code knows of a task's steps before it follows a list, and what it promises.
-use Rattle.std.specs.Prelude.{◌≡◌, ℕ, ◌*◌, ◌≤◌, ◌<◌, List, ◌++◌, length, get_or, take, drop}
+use Rattle.std.specs.Prelude.{◌≡◌, ℕ, ◌*◌, ◌≤◌, ◌<◌, List, ◌++◌, length, get_or, take, drop, Option, None, Some}
 use Rattle.facts.specs.Lists.{total}
 use Rattle.facts.specs.Read.{accepted}
 use Rattle.facts.specs.Partial.{apply, partial_at}
@@ -12,10 +12,6 @@ use Rattle.compilation.specs.Compile.{step_count}
 use Rattle.plans.specs.Carry.{expand_from}
 use Rattle.carry.specs.CarryFile.{contracted}
 use Rattle.numbering.specs.InPlace.{AllTested, entries_of, Writable, Numbered, Noted}
-use Rattle.follow.specs.declared.Trail.{Trail}
-use Rattle.follow.specs.declared.Trail.TheVariants.{To, Astray}
-use Rattle.follow.specs.declared.Followed.{Followed}
-use Rattle.follow.specs.declared.Followed.TheVariants.{Plan, Astray as NoPlan}
 use Rattle.probefile.specs.Probe.{max_steps}
 
 -- ---- one action
@@ -37,9 +33,9 @@ pub record PathPassed (f sizes offsets : List ℕ) (count : ℕ) (s list : List 
   pub small : cost ≤ max_weight * count
 
 -- what the answer to a path says
-abbrev pub PathTo : List ℕ → List ℕ → List ℕ → ℕ → List ℕ → List ℕ → ℕ → Trail → Type 0
-PathTo f sizes offsets count s list from (To i cost) = PathPassed f sizes offsets count s list from i cost
-PathTo f sizes offsets count s list from Astray = Unit {0}
+abbrev pub PathTo : List ℕ → List ℕ → List ℕ → ℕ → List ℕ → List ℕ → ℕ → Option (ℕ × ℕ) → Type 0
+PathTo f sizes offsets count s list from (Some (i, cost)) = PathPassed f sizes offsets count s list from i cost
+PathTo f sizes offsets count s list from None = Unit {0}
 
 -- the path is passed, and the action leads to the state `after` at this cost
 pub record ActionPassed (f sizes : List ℕ) (at : ℕ) (offsets s list : List ℕ) (from : ℕ) (after : List ℕ) (i cost : ℕ) : Type 0 where
@@ -49,9 +45,9 @@ pub record ActionPassed (f sizes : List ℕ) (at : ℕ) (offsets s list : List �
   pub small : cost ≤ max_walk
 
 -- what the answer to an action says
-abbrev pub ActionTo : List ℕ → List ℕ → ℕ → List ℕ → List ℕ → List ℕ → ℕ → List ℕ → Trail → Type 0
-ActionTo f sizes at offsets s list from after (To i cost) = ActionPassed f sizes at offsets s list from after i cost
-ActionTo f sizes at offsets s list from after Astray = Unit {0}
+abbrev pub ActionTo : List ℕ → List ℕ → ℕ → List ℕ → List ℕ → List ℕ → ℕ → List ℕ → Option (ℕ × ℕ) → Type 0
+ActionTo f sizes at offsets s list from after (Some (i, cost)) = ActionPassed f sizes at offsets s list from after i cost
+ActionTo f sizes at offsets s list from after None = Unit {0}
 
 -- ---- a whole list
 
@@ -71,11 +67,11 @@ pub record PlanFollowed (f sizes : List ℕ) (goal count : ℕ) (row list s out 
   pub runs : run_from count (move_at f row) (partial_at f goal) 0 0 (take n out) s ≡ accepted sum
 
 -- what the answer to a list says
-abbrev pub PlanTo : List ℕ → List ℕ → ℕ → ℕ → List ℕ → List ℕ → List ℕ → List ℕ → Followed → Type 0
-PlanTo f sizes goal count row list s out (Plan n sum) = PlanFollowed f sizes goal count row list s out n sum
-PlanTo f sizes goal count row list s out NoPlan = Unit {0}
+abbrev pub PlanTo : List ℕ → List ℕ → ℕ → ℕ → List ℕ → List ℕ → List ℕ → List ℕ → Option (ℕ × ℕ) → Type 0
+PlanTo f sizes goal count row list s out (Some (n, sum)) = PlanFollowed f sizes goal count row list s out n sum
+PlanTo f sizes goal count row list s out None = Unit {0}
 
 -- on an accepted file: a list that is followed to its end is contracted to the first n entries of `out`
-abbrev pub ContractsTo : List ℕ → List ℕ → List ℕ → Followed → Type 0
-ContractsTo f list out (Plan n sum) = (n ≤ length out) × (contracted f list ≡ accepted (take n out, sum))
-ContractsTo f list out NoPlan = Unit {0}
+abbrev pub ContractsTo : List ℕ → List ℕ → List ℕ → Option (ℕ × ℕ) → Type 0
+ContractsTo f list out (Some (n, sum)) = (n ≤ length out) × (contracted f list ≡ accepted (take n out, sum))
+ContractsTo f list out None = Unit {0}

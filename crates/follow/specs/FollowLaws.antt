@@ -1,8 +1,7 @@
 -- Laws of following a probe list in place: the path of one action entry by entry, then the actions one after the other.
-use Rattle.std.specs.Prelude.{◌≡◌, Bool, true, false, ℕ, suc, ◌+◌, ◌*◌, ◌-◌, ◌≤◌, ◌<◌, eqb, get_or, drop, set}
+use Rattle.std.specs.Prelude.{◌≡◌, Bool, true, false, ℕ, suc, ◌+◌, ◌*◌, ◌-◌, ◌≤◌, ◌<◌, eqb, get_or, drop, set, Option, None, Some}
 use Rattle.std.proofs.Math.Path.{refl, sym, ap, ap₂, subst}
 use Rattle.std.proofs.Common.{◌∙◌, arith, drop_of_length-le, drop-cons, eqb-true, lt-ltb}
-use Rattle.std.proofs.Math.Option.{Option, none, some}
 use Rattle.std.proofs.Math.Numerals.{add-one}
 use mathlib.Core.List.{List, [], ◌∷◌, ◌++◌, append-nil, append_assoc}
 use Rattle.std.proofs.Math.ListN.{length, take, length-set}
@@ -38,8 +37,6 @@ use Rattle.carry.specs.AnswerLaws.{wrote_entry}
 use Rattle.numbering.specs.NumberLaws.{actions_at, total_next, actions_are, steps_few, all_tested, actions_wf}
 use Rattle.numbering.specs.ActionLaws.{Visited, path_entry, path_last}
 use Rattle.follow.specs.Follow.{Walkable, Followable, PathPassed, ActionPassed, PlanFollowed, PlanTo, ContractsTo}
-use Rattle.follow.specs.declared.Followed.{Followed}
-use Rattle.follow.specs.declared.Followed.TheVariants.{Plan, Astray as NoPlan}
 
 -- ---- the path of one action
 
@@ -106,17 +103,17 @@ record StartsWith (first k : ℕ) (actions : List Action) (r number : ℕ) : Typ
   step : r ≡ first + first_step_of actions a
 
 -- A start is that of its action: the first of all, or a later one.
-started_one : (first k : ℕ) (x : Action) (actions : List Action) (r : ℕ) {q : ℕ} → (started_by (first + step_count x) (suc k) actions r ≡ some q → StartsWith (first + step_count x) (suc k) actions r q)
-    → (b : Bool) → eqb r first ≡ b → started_by first k (x ∷ actions) r ≡ some q → StartsWith first k (x ∷ actions) r q
+started_one : (first k : ℕ) (x : Action) (actions : List Action) (r : ℕ) {q : ℕ} → (started_by (first + step_count x) (suc k) actions r ≡ Some q → StartsWith (first + step_count x) (suc k) actions r q)
+    → (b : Bool) → eqb r first ≡ b → started_by first k (x ∷ actions) r ≡ Some q → StartsWith first k (x ∷ actions) r q
 started_one first k x actions r {q} on true e h =
-    let z : ◌≡◌ {A = Option ℕ} (some k) (some q) = rw (e, started_by) at h in
+    let z : ◌≡◌ {A = Option ℕ} (Some k) (Some q) = rw (e, started_by) at h in
     let same : k ≡ q = cc in
     record { a = 0; is = omega arith; below = omega arith; step = omega (arith, eqb-true r first e) }
 started_one first k x actions r on false e h =
     let later = on (rw (e, started_by) at h) in
     record { a = suc later.a; is = omega (arith, later.is); below = omega (arith, later.below); step = omega (arith, later.step) }
 
-started_by_lem : (first k : ℕ) (actions : List Action) (r : ℕ) {q : ℕ} → started_by first k actions r ≡ some q → StartsWith first k actions r q
+started_by_lem : (first k : ℕ) (actions : List Action) (r : ℕ) {q : ℕ} → started_by first k actions r ≡ Some q → StartsWith first k actions r q
 started_by_lem first k [] r {q} h = let z : ◌≡◌ {A = ℕ} 0 1 = cc in absurd (omega arith)
 started_by_lem first k (x ∷ actions) r h = started_one first k x actions r (started_by_lem (first + step_count x) (suc k) actions r) (eqb r first) refl h
 
@@ -125,8 +122,8 @@ pub noted_start : {actions : List Action} {action_of_lem : List ℕ} → Noted a
 noted_start {actions} {action_of_lem} n {r} {action} e some-start = go (started_by 0 0 actions r) refl
   where
     go : (o : Option ℕ) → started_by 0 0 actions r ≡ o → (action - 1 < length actions) × (r ≡ first_step_of actions (action - 1))
-    go none h = absurd (some-start (e ∙ n.notes r ∙ rw h))
-    go (some q) h =
+    go None h = absurd (some-start (e ∙ n.notes r ∙ rw h))
+    go (Some q) h =
         let s = started_by_lem 0 0 actions r h in
         let number : get_or action_of_lem r 0 ≡ suc q = n.notes r ∙ rw h in
         let same : action - 1 ≡ s.a = omega (arith, e, number, s.is) in
@@ -137,10 +134,10 @@ noted_start {actions} {action_of_lem} n {r} {action} e some-start = go (started_
 -- What an action is followed by, in a state inside the domains.
 pub walkable_there : {f sizes : List ℕ} {count : ℕ} {row first_step first_edge action_of_lem s : List ℕ} → Followable f sizes count row first_step first_edge action_of_lem → Inside sizes s
     → {a next r : ℕ} {own own-edges : List ℕ} → a < count → own ≡ drop (own_from row a) row → own-edges ≡ drop (get_or row (firsts_from + a) 0) first_edge
-    → next ≡ get_or first_step (1 + a) 0 → r ≡ first_step_of (actions_in f sizes row 0 count) a → Walkable sizes (action_in f sizes (get_or row a 0) own).nodes own-edges r next s
+    → next ≡ get_or first_step (a + 1) 0 → r ≡ first_step_of (actions_in f sizes row 0 count) a → Walkable sizes (action_in f sizes (get_or row a 0) own).nodes own-edges r next s
 walkable_there {f} {sizes} {count} {row} {first_step} {s = s} p inside {a} {next} {r = step} {own-edges = own-edges} known o oe n r =
     let element = actions_at f sizes row a count known in
-    let one : 1 + a ≡ suc a = omega arith in
+    let one : a + 1 ≡ suc a = omega arith in
     let after = n ∙ ap (λ (k : ℕ). get_or first_step k 0) one ∙ p.numbered.numbers (suc a) (omega (arith, at_length element)) ∙ total_next step_count element in
     subst (λ (own : List ℕ). Walkable sizes (action_in f sizes (get_or row a 0) own).nodes own-edges step next s) (sym o)
     (rw (oe, r, after)
@@ -260,7 +257,7 @@ module _ (f : List ℕ) {variables count : ℕ} {row : List ℕ} (ready : Ready 
       (p.within, ap (contracted (file_of f)) comes ∙ contracted_plan (file_of f) (reads f ready) ((task_plan t plan sum).1 run) short)
 
   -- Whatever is answered.
-  pub followed_answers : {sizes state : List ℕ} (list out : List ℕ) → sizes ≡ t.sizes → state ≡ t.init → length out ≤ max_list → (r : Followed)
+  pub followed_answers : {sizes state : List ℕ} (list out : List ℕ) → sizes ≡ t.sizes → state ≡ t.init → length out ≤ max_list → (r : Option (ℕ × ℕ))
       → PlanTo f sizes (1 + 2 * variables) count row list state out r → ContractsTo (file_of f) list out r
-  followed_answers list out e s few (Plan n sum) p = followed_contracts e s few p
-  followed_answers list out e s few NoPlan p = tt
+  followed_answers list out e s few (Some (n, sum)) p = followed_contracts e s few p
+  followed_answers list out e s few None p = tt

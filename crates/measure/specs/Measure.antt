@@ -1,12 +1,12 @@
 -- What a plan comes to before it is expanded. Document 02, W7: "The field engineer wants to know beforehand how long the long list is."
-use Rattle.std.specs.Prelude.{ℕ, List, length}
-use Rattle.facts.specs.Refusal.{number, place}
-use Rattle.facts.specs.Read.{Read, accepted, refused, ◌>>=◌}
+use Rattle.std.specs.Prelude.{ℕ, List, length, Result}
+use Rattle.facts.specs.declared.Refusal.{Refusal}
+use Rattle.facts.specs.Read.{Read, accepted, with_value, ◌>>=◌}
+use Rattle.facts.specs.Answers.{answer}
 use Rattle.taskfile.specs.Task.{Walk}
 use Rattle.taskfile.specs.TaskFile.{run_task}
 use Rattle.carry.specs.CarryFile.{expanded}
 use Rattle.measure.specs.declared.Measured.{Measured}
-use Rattle.measure.specs.declared.Measured.TheVariants.{Plan, Refused}
 
 -- what the run of a list of actions answers, and how long the list is that expanding returns
 unfoldable pub measured : List ℕ → List ℕ → Read (Walk × ℕ)
@@ -16,6 +16,5 @@ measured f list = do
   accepted (run, length long)
 
 -- sum, nodes passed and length
-abbrev pub measured_answer : Measured → Read (Walk × ℕ)
-measured_answer (Plan sum passed steps) = accepted (record { cost = sum; passed = passed }, steps)
-measured_answer (Refused why) = refused (number why) (place why)
+abbrev pub measured_answer : Result Measured Refusal → Read (Walk × ℕ)
+measured_answer r = with_value (λ (m : Measured). (record { cost = m.run.cost; passed = m.run.passed }, m.steps)) (answer r)

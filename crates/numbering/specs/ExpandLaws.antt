@@ -1,6 +1,7 @@
 -- Laws of expanding as the code does it: the actions of a list one after the other, and the ways in which the operation can go.
-use Rattle.std.specs.Prelude.{◌≡◌, refl, Bool, true, false, ℕ, suc, ◌+◌, ◌*◌, ◌-◌, ◌≤◌, ◌<◌, List, [], ◌∷◌, length, get_or, take, drop, set}
-use Rattle.std.proofs.Common.{sym, ap, subst, ◌∙◌, add-one, arith, length-append, drop_of_length-le, drop-cons}
+use Rattle.std.specs.Prelude.{◌≡◌, refl, Bool, true, false, ℕ, suc, ◌+◌, ◌*◌, ◌-◌, ◌≤◌, ◌<◌, List, [], length, get_or, take, drop, Result, Ok, Err}
+use Rattle.facts.specs.declared.Refusal.{Refusal}
+use Rattle.std.proofs.Common.{sym, ap, subst, ◌∙◌, add-one, arith, length-append, drop_of_length-le, drop-cons, length-take-le, ◌++◌}
 use borrow.Rule.Slice.PartMut.{put_mid}
 use Rattle.facts.specs.Lists.{total, At}
 use Rattle.facts.specs.ListLaws.{look, at_length}
@@ -28,16 +29,13 @@ use Rattle.taskfile.specs.PartsInPlace.{action_in, actions_in, Tested}
 use Rattle.taskfile.specs.PartsInPlaceLaws.{reads, actions_in_place}
 use Rattle.taskfile.proofs.PartsInPlaceLaws.{actions_stood}
 use Rattle.probe_writer.specs.ExtentLaws.{weighs}
-use Rattle.facts.specs.WriteRowLaws.{Cut, Going, going_more, going_end}
+use Rattle.facts.specs.WriteRowLaws.{Cut, Going, going_more}
 use Rattle.plans.specs.Carry.{action_list, expand_from, expand}
 use Rattle.plans.specs.ListLaws.{total_take}
 use Rattle.plans.proofs.LengthLaws.{expand_limit, expand_entries}
 use Rattle.carry.specs.CarryFile.{expanded}
 use Rattle.numbering.specs.InPlace.{Edges, Numbered, Writable, expansion, WroteIf, Prepared}
 use Rattle.numbering.specs.NumberLaws.{actions_at, total_next, actions_are, steps_few, all_tested}
-use Rattle.carry.specs.AnswerLaws.{entry_room, entry_more}
-use Rattle.carry.specs.declared.Carried.{Carried}
-use Rattle.carry.specs.declared.Carried.TheVariants.{List as Listed, Refused as NotCarried}
 use Rattle.carry.specs.SameSumLaws.{expanded_plan, fits_inv}
 use Rattle.carry.specs.LongList.{sum_of_expanded}
 use Rattle.probefile.specs.Probe.{max_steps}
@@ -172,10 +170,10 @@ module _ (f : List ℕ) {variables count : ℕ} {row : List ℕ} (ready : Ready 
   unfolding expand
   entries_are list r e s = rw (e, s, actions_in_place f ready) (sym (expansion_is (file_of f) (reads f ready) list (ran_plan (file_of f) (reads f ready) list r)))
 
-  pub wrote_expansion : (list before now : List ℕ) {sizes state : List ℕ} {ran : Read ℕ} (r : Carried) → sizes ≡ t.sizes → state ≡ t.init → ran ≡ sum_task (file_of f) list
+  pub wrote_expansion : (list before now : List ℕ) {sizes state : List ℕ} {ran : Read ℕ} (r : Result (ℕ × ℕ) Refusal) → sizes ≡ t.sizes → state ≡ t.init → ran ≡ sum_task (file_of f) list
       → WroteIf r ran (expand_from (actions_in f sizes row 0 count) list state) before now → WroteIf r (sum_task (file_of f) list) (expansion (file_of f) list) before now
-  wrote_expansion list before now (Listed n sum) e s same (h, w) = let runs = h ∙ same in (runs, subst (λ (es : List ℕ). Wrote es before now n) (entries_are list (sym runs) e s) w)
-  wrote_expansion list before now (NotCarried why) e s same h = h ∙ same
+  wrote_expansion list before now (Ok (n, sum)) e s same (h, w) = let runs = h ∙ same in (runs, subst (λ (es : List ℕ). Wrote es before now n) (entries_are list (sym runs) e s) w)
+  wrote_expansion list before now (Err why) e s same h = h ∙ same
 
 -- ---- the ways in which the operation can go
 
@@ -206,15 +204,7 @@ front_is {entries} {before} w = rw (w.count, w.buffer) (over_front entries befor
 pub front_copied : {entries before now out last : List ℕ} {n : ℕ} → Wrote entries before now n → {k : ℕ} → Wrote (take n now) out last k → Wrote entries out last n
 front_copied {out = out} {last = last} w v = record { count = w.count; buffer = subst (λ (es : List ℕ). last ≡ over es out) (front_is w) v.buffer }
 
--- One entry after the other is copied.
-pub copied_next : (entries : List ℕ) {out now : List ℕ} {i : ℕ} → Going entries (drop i entries) out now i → length entries ≤ length out → i < length entries
-    → (i < length now) × Going entries (drop (i + 1) entries) out (set now i (get_or entries i 0)) (i + 1)
-copied_next entries {i = i} g fits l =
-    let cut : Cut (drop i entries) (get_or entries i 0 ∷ []) (drop (i + 1) entries) = record { cut = rw (drop-cons entries i 0 l, add-one i) } in
-    (entry_room g fits cut, entry_more g fits cut)
-
--- At last all are.
-pub copied_all : (entries : List ℕ) {out now : List ℕ} {i : ℕ} → Going entries (drop i entries) out now i → length entries ≤ length out → length entries ≤ i → i ≤ length entries → Wrote entries out now (length entries)
-copied_all entries {out} {now} {i} g fits l h =
-    let same : i ≡ length entries = omega arith in
-    subst (Wrote entries out now) same (going_end g fits (drop_of_length-le entries l))
+-- The front of a buffer, copied to another one, is written there.
+pub copied_front : (now : List ℕ) {out last : List ℕ} {n : ℕ} → n ≤ length now → last ≡ take n now ++ drop n out → Wrote (take n now) out last n
+unfolding over
+copied_front now {out} {last} {n} l e = let long = length-take-le n now l in record { count = sym long; buffer = e ∙ ap (λ (k : ℕ). take n now ++ drop k out) (sym long) }

@@ -1,6 +1,6 @@
 -- What code knows of a task's steps and of a list before it carries the list across, and the list of actions by what was noted.
-use Rattle.std.specs.Prelude.{◌≡◌, ℕ, zero, suc, ◌+◌, ◌<◌, ◌≤◌, List, [], ◌∷◌, ltb, length, get_or, set, take, drop}
-use Rattle.std.proofs.Math.Option.{none, some}
+use Rattle.std.specs.Prelude.{◌≡◌, ℕ, zero, suc, ◌+◌, ◌<◌, ◌≤◌, List, [], ◌∷◌, ltb, length, get_or, set, take, drop, None, Some, Result, Ok, Err}
+use Rattle.facts.specs.declared.Refusal.{Refusal}
 use Rattle.facts.specs.Refusal.{number, place}
 use Rattle.facts.specs.Read.{Read, accepted, check, ◌>>=◌, refused}
 use Rattle.facts.specs.State.{Inside}
@@ -18,8 +18,6 @@ use Rattle.taskfile.specs.InPlace.{nodes_before}
 use Rattle.taskfile.specs.WalkInPlace.{node_count}
 use Rattle.taskfile.specs.PartsInPlace.{actions_in, Tested}
 use Rattle.carry.specs.CarryFile.{expanded}
-use Rattle.carry.specs.declared.Carried.{Carried}
-use Rattle.carry.specs.declared.Carried.TheVariants.{List as Listed, Refused as NotCarried}
 
 -- the variables that the nodes of each action test are noted behind their offsets
 pub record AllTested (f : List ℕ) (count : ℕ) (row : List ℕ) : Type 0 where
@@ -44,7 +42,7 @@ pub record Numbered (actions : List Action) (row first_step first_edge : List �
 
 -- `action_of_lem` has at the number of each start 1 and the number of its action, and at every other number 0
 pub record Noted (actions : List Action) (action_of_lem : List ℕ) : Type 0 where
-  pub notes : (r : ℕ) → get_or action_of_lem r 0 ≡ elim (started_by 0 0 actions r) [ none ↦ 0 | some a ↦ suc a ]
+  pub notes : (r : ℕ) → get_or action_of_lem r 0 ≡ elim (started_by 0 0 actions r) [ None ↦ 0 | Some a ↦ suc a ]
 
 -- the same, of the actions of the task of f
 pub record NotedIn (f action_of_lem : List ℕ) : Type 0 where
@@ -101,9 +99,9 @@ unfoldable pub expansion : List ℕ → List ℕ → List ℕ
 expansion f list = elim (expanded f list) [ accepted c ↦ c.0 | refused n p ↦ [] ]
 
 -- what a run answers: its sum, where these entries were written at the front of a buffer, which was `before` and is `now`; or its refusal
-abbrev pub WroteIf : Carried → Read ℕ → List ℕ → List ℕ → List ℕ → Type 0
-WroteIf (Listed n sum) ran entries before now = (accepted sum ≡ ran) × Wrote entries before now n
-WroteIf (NotCarried why) ran entries before now = refused (number why) (place why) ≡ ran
+abbrev pub WroteIf : Result (ℕ × ℕ) Refusal → Read ℕ → List ℕ → List ℕ → List ℕ → Type 0
+WroteIf (Ok (n, sum)) ran entries before now = (accepted sum ≡ ran) × Wrote entries before now n
+WroteIf (Err why) ran entries before now = refused (number why) (place why) ≡ ran
 
 -- what the probe list of a list of actions is written from: the row has each action, each is well-formed, its incoming weight and the variables that its nodes test are noted, the steps have their numbers, and there are at most 24 variables and 576 steps
 pub record Prepared (f sizes : List ℕ) (count : ℕ) (row first_step first_edge : List ℕ) : Type 0 where

@@ -1,7 +1,6 @@
 -- Laws of what is noted at the numbers of starts.
-use Rattle.std.specs.Prelude.{◌≡◌, refl, Bool, true, false, ℕ, zero, suc, ◌+◌, ◌≤◌, ◌<◌, List, [], ◌∷◌, eqb, length, get_or, take, drop, set, replicate}
+use Rattle.std.specs.Prelude.{◌≡◌, refl, Bool, true, false, ℕ, zero, suc, ◌+◌, ◌≤◌, ◌<◌, List, [], ◌∷◌, eqb, length, get_or, take, drop, set, replicate, Option, None, Some}
 use Rattle.std.proofs.Common.{sym, ap, subst, ◌∙◌, add-one, arith, length-set, drop_of_length-le, length-take-le, drop-cons, get_or-set_same, get_or-set_other, get_or-take, eqb-true}
-use Rattle.std.proofs.Math.Option.{Option, none, some}
 use Rattle.std.proofs.lemmas.List.{length-replicate}
 use Rattle.std.proofs.lemmas.Bool.{eqb-false}
 use Rattle.facts.specs.Lists.{total}
@@ -23,7 +22,7 @@ use Rattle.probefile.specs.Probe.{max_steps}
 
 -- 1 and the number of the action, or what stood there before
 abbrev note_of : ℕ → Option ℕ → ℕ
-note_of before started = elim started [ none ↦ before | some a ↦ suc a ]
+note_of before started = elim started [ None ↦ before | Some a ↦ suc a ]
 
 module _ (first k : ℕ) (x : Action) (actions : List Action) (starts action_of_lem : List ℕ) (r : ℕ) where
   -- One action more: its start is noted, and nothing else.
@@ -124,6 +123,9 @@ module _ (f : List ℕ) {variables count : ℕ} {row : List ℕ} (ready : Ready 
         let few = steps_most t (task_wf _ (reads f ready)) (task_limits _ (reads f ready)) in
         let l : a < length t.actions = omega (arith, starts_long) in
         omega (arith, start_at a l, first_below t.actions a l, steps_length t, few)
+
+    pub step_below : (a : ℕ) → a < count → get_or first_step a 0 < max_steps
+    step_below a h = omega (arith, get_or-take count first_step a 0 h, start_below a (omega (arith, length-take-le count first_step long)))
 
     -- Over zeros they are noted, and nothing else.
     pub note_in : {before now : List ℕ} → before ≡ replicate max_steps 0 → now ≡ note_from 0 starts before → NotedIn (file_of f) now

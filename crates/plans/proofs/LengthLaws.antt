@@ -1,13 +1,12 @@
 -- Laws of how long an expansion is: for each action its start, an edge for each node that its walk passes, and its end.
-use Rattle.std.specs.Prelude.{◌≡◌, Bool, eqb}
+use Rattle.std.specs.Prelude.{◌≡◌, Bool, eqb, Option, None, Some, slice_get}
 use Rattle.std.proofs.Math.Path.{refl, ap}
 use Rattle.std.proofs.Common.{sym, ◌∙◌, le_trans, mul-suc, mul-le-mul_right, length-append, lt-ltb}
-use Rattle.std.proofs.Math.Option.{Option, none, some}
 use Prim.Native.Nat.{ℕ, suc, ◌+◌, ◌*◌, ◌≤◌}
 use native.Mathlib.Omega.{arith}
 use Rattle.std.proofs.Math.Bool.{true, false}
 use mathlib.Core.List.{List, [], ◌∷◌}
-use Rattle.std.proofs.Math.ListN.{length, get_elem?}
+use Rattle.std.proofs.Math.ListN.{length}
 use Rattle.facts.specs.Read.{Read, accepted, refused, with_value}
 use Rattle.facts.specs.Lists.{At}
 use Rattle.facts.specs.ListLaws.{look, found, at_length}
@@ -113,9 +112,9 @@ module _ {sizes : List ℕ} {actions : List Action} (wf : (a : ℕ) (x : Action)
   Bounded list = (s : List ℕ) → Inside sizes s → length (expand_from actions list s) ≤ (2 + length sizes) * length list
 
   -- One entry more: it has an action or not.
-  bounded_entry : (a : ℕ) (list : List ℕ) → Bounded list → (o : Option Action) → get_elem? actions a ≡ o → Bounded (a ∷ list)
-  bounded_entry a list on none e s inside = rw (e, expand_from) (omega arith)
-  bounded_entry a list on (some x) e s inside =
+  bounded_entry : (a : ℕ) (list : List ℕ) → Bounded list → (o : Option Action) → slice_get actions a ≡ o → Bounded (a ∷ list)
+  bounded_entry a list on None e s inside = rw (e, expand_from) (omega arith)
+  bounded_entry a list on (Some x) e s inside =
       let h = found actions a e in
       omega (
         arith,
@@ -128,7 +127,7 @@ module _ {sizes : List ℕ} {actions : List Action} (wf : (a : ℕ) (x : Action)
   -- Whatever the list.
   expand_most : (list : List ℕ) → Bounded list
   expand_most [] s inside = omega arith
-  expand_most (a ∷ list) s inside = bounded_entry a list (expand_most list) (get_elem? actions a) refl s inside
+  expand_most (a ∷ list) s inside = bounded_entry a list (expand_most list) (slice_get actions a) refl s inside
 
   -- With at most 24 variables, at most 26 entries for an action.
   pub action_limit : length sizes ≤ max_variables → (first : ℕ) {a : ℕ} {x : Action} → At actions a x → (s : List ℕ) → Inside sizes s → length (action_list first x s) ≤ 26

@@ -1,7 +1,5 @@
 -- The probe list that comes from a source plan, and the source plan that a probe list comes from. Document 01, "Carrying plans across".
-use Rattle.std.specs.Prelude.{ℕ, suc, ◌+◌, true, false, List, [], ◌∷◌, ◌++◌, eqb, get_or, take}
-use Rattle.std.proofs.Math.Option.{Option, none, some}
-use Rattle.std.proofs.Math.ListN.{get_elem?}
+use Rattle.std.specs.Prelude.{ℕ, suc, ◌+◌, true, false, List, [], ◌∷◌, ◌++◌, eqb, get_or, take, Option, None, Some, slice_get}
 use Rattle.facts.specs.Lists.{total}
 use Rattle.facts.specs.Partial.{apply}
 use Rattle.taskfile.specs.Task.{Node, Action, Task, edge_at}
@@ -29,9 +27,9 @@ action_list first x s = first ∷ path_steps (suc first) 1 x.nodes 1 s
 abbrev pub expand_from : List Action → List ℕ → List ℕ → List ℕ
 expand_from actions [] s = []
 expand_from actions (a ∷ list) s =
-    elim (get_elem? actions a) [
-      | none ↦ []
-      | some x ↦ action_list (first_step_of actions a) x s ++ expand_from actions list (apply x.eff s)
+    elim (slice_get actions a) [
+      | None ↦ []
+      | Some x ↦ action_list (first_step_of actions a) x s ++ expand_from actions list (apply x.eff s)
     ]
 
 -- the probe list that comes from a source plan
@@ -41,13 +39,13 @@ expand t list = expand_from t.actions list t.init
 -- The number of the action whose start is step r, if it is a start. `actions` are those from number a on, and `first` is the number of
 -- their first step.
 abbrev pub started_by : ℕ → ℕ → List Action → ℕ → Option ℕ
-started_by first a [] r = none
-started_by first a (x ∷ actions) r = elim (eqb r first) [ true ↦ some a | false ↦ started_by (first + step_count x) (suc a) actions r ]
+started_by first a [] r = None
+started_by first a (x ∷ actions) r = elim (eqb r first) [ true ↦ Some a | false ↦ started_by (first + step_count x) (suc a) actions r ]
 
 -- the actions started by a probe list, in turn
 abbrev pub contract_of : List Action → List ℕ → List ℕ
 contract_of actions [] = []
-contract_of actions (r ∷ list) = elim (started_by 0 0 actions r) [ none ↦ contract_of actions list | some a ↦ a ∷ contract_of actions list ]
+contract_of actions (r ∷ list) = elim (started_by 0 0 actions r) [ None ↦ contract_of actions list | Some a ↦ a ∷ contract_of actions list ]
 
 -- the source plan that a probe plan comes from
 unfoldable pub contract : Task → List ℕ → List ℕ

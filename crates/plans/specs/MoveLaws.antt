@@ -13,7 +13,8 @@ use Rattle.taskfile.specs.Task.{Edge, Node, Action, Task, edge_at}
 use Rattle.taskfile.specs.WalkLaws.{edge_there}
 use Rattle.probefile.specs.Probe.{Step, step_move}
 use Rattle.probefile.specs.ProbeLaws.{move_at_lem}
-use Rattle.compilation.specs.ExtendLaws.{and_true, all_zero}
+use Rattle.compilation.specs.ExtendLaws.{all_zero}
+use Rattle.std.proofs.Math.Bool.{and-true}
 use Rattle.compilation.specs.Compile.{variables, edge_step, end_step, steps_of, probe_of}
 use Rattle.plans.specs.Carry.{first_step_of}
 use Rattle.plans.specs.ListLaws.{at_same}
@@ -87,7 +88,7 @@ and_false false = refl
 
 module _ {t : Task} {s : List ℕ} (o : State t s) where
   pub goal_idle : holds (probe_goal t) (idle t s) ≡ holds t.goal s
-  goal_idle = rw (goal_holds o 0 (quiet t) (quiet_length t), zeros_all (length t.actions)) (and_true (holds t.goal s))
+  goal_idle = rw (goal_holds o 0 (quiet t) (quiet_length t), zeros_all (length t.actions)) (and-true (holds t.goal s))
 
   pub goal_midway : (a at : ℕ) → holds (probe_goal t) (midway t s a at) ≡ false
   goal_midway a at = goal_holds o 1 (busy t a at) (busy_length t a at) ∙ and_false (holds t.goal s)

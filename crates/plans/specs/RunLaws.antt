@@ -1,8 +1,6 @@
 -- What a move or a plan tells of its steps.
-use Rattle.std.specs.Prelude.{◌≡◌, refl, ℕ, ◌+◌, Bool, true, false, List, [], ◌∷◌}
+use Rattle.std.specs.Prelude.{◌≡◌, refl, ℕ, ◌+◌, Bool, true, false, List, [], ◌∷◌, Option, None, Some, slice_get}
 use Rattle.std.proofs.Common.{sym, ◌∙◌, subst}
-use Rattle.std.proofs.Math.Option.{Option, none, some}
-use Rattle.std.proofs.Math.ListN.{get_elem?}
 use Rattle.facts.specs.Lists.{At}
 use Rattle.facts.specs.ListLaws.{found}
 use Rattle.facts.specs.Partial.{Partial, holds, apply}
@@ -32,11 +30,11 @@ pub record StepMoved (list : List Step) (r : ℕ) (s s' : List ℕ) (c : ℕ) : 
 
 pub step_moved : (list : List Step) (r : ℕ) (s : List ℕ) {s' : List ℕ} {c : ℕ} → step_move list r s ≡ next s' c → StepMoved list r s s' c
 unfolding step_move
-step_moved list r s {s'} {c} h = go (get_elem? list r) refl h
+step_moved list r s {s'} {c} h = go (slice_get list r) refl h
   where
-    go : (o : Option Step) → get_elem? list r ≡ o → elim o as (λ o. Move) [ none ↦ blocked | some st ↦ performStep st s ] ≡ next s' c → StepMoved list r s s' c
-    go none q h = absurd (not_blocked h)
-    go (some st) q h = record { st = st; element = found list r q; applied = attempt_inv st.pre st.eff st.cost s h }
+    go : (o : Option Step) → slice_get list r ≡ o → elim o as (λ o. Move) [ None ↦ blocked | Some st ↦ performStep st s ] ≡ next s' c → StepMoved list r s s' c
+    go None q h = absurd (not_blocked h)
+    go (Some st) q h = record { st = st; element = found list r q; applied = attempt_inv st.pre st.eff st.cost s h }
 
 -- action number a that moves is an action x that applies
 pub record ActionMoved (list : List Action) (a : ℕ) (s s' : List ℕ) (c : ℕ) : Type 0 where
@@ -46,11 +44,11 @@ pub record ActionMoved (list : List Action) (a : ℕ) (s s' : List ℕ) (c : ℕ
 
 pub action_moved : (list : List Action) (a : ℕ) (s : List ℕ) {s' : List ℕ} {c : ℕ} → action_move list a s ≡ next s' c → ActionMoved list a s s' c
 unfolding action_move
-action_moved list a s {s'} {c} h = go (get_elem? list a) refl h
+action_moved list a s {s'} {c} h = go (slice_get list a) refl h
   where
-    go : (o : Option Action) → get_elem? list a ≡ o → elim o as (λ o. Move) [ none ↦ blocked | some x ↦ performAction x s ] ≡ next s' c → ActionMoved list a s s' c
-    go none q h = absurd (not_blocked h)
-    go (some x) q h = record { x = x; element = found list a q; applied = attempt_inv x.pre x.eff (cost x s) s h }
+    go : (o : Option Action) → slice_get list a ≡ o → elim o as (λ o. Move) [ None ↦ blocked | Some x ↦ performAction x s ] ≡ next s' c → ActionMoved list a s s' c
+    go None q h = absurd (not_blocked h)
+    go (Some x) q h = record { x = x; element = found list a q; applied = attempt_inv x.pre x.eff (cost x s) s h }
 
 -- the first step of a plan, and the rest
 pub record Stepped (move : ℕ → List ℕ → Move) (goal : Partial) (sum a : ℕ) (list s : List ℕ) (c : ℕ) : Type 0 where

@@ -74,10 +74,11 @@ init_long f n actions h =
     )
 
 -- The task's initial values, and a zero for each further variable, are written.
-pub wrote_init : {before now : List ℕ} {k : ℕ} (f : List ℕ) (n actions : ℕ) {own : ℕ} → own ≡ n → actions ≤ max_actions
-    → Wrote (take own (drop (1 + n) f) ++ take (1 + actions) (replicate max_markers 0)) before now k → Wrote (init_in f n actions) before now k
-wrote_init {before} {now} {k} f n actions {own} e h w =
-    subst₂ (λ (m : ℕ) (zeros : List ℕ). Wrote (take m (drop (1 + n) f) ++ zeros) before now k) e (further_zeros actions h) w
+pub wrote_init : {before now : List ℕ} {k : ℕ} (f : List ℕ) (n actions : ℕ) {own : ℕ} → own ≡ n
+    → Wrote (take own (drop (1 + n) f) ++ replicate (1 + actions) 0) before now k → Wrote (init_in f n actions) before now k
+wrote_init {before} {now} {k} f n actions {own} e w =
+    let further : 1 + actions ≡ suc actions = omega arith in
+    subst₂ (λ (m : ℕ) (i : ℕ). Wrote (take m (drop (1 + n) f) ++ replicate i 0) before now k) e further w
 
 -- ---- the goal
 

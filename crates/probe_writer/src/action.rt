@@ -12,6 +12,7 @@ ghost use Rattle.compilation.specs.Compile.{flat, node_steps, action_steps};
 ghost use Rattle.taskfile.specs.PartsInPlace.{node_in, nodes_in, action_in, actions_in, Tests, Stood};
 
 use facts::number::{byte_at, offset_at};
+use step_writer::marks::Marks;
 use step_writer::step::{put_edge, put_end, put_start};
 use taskfile::Task;
 use walk::own_nodes;
@@ -23,9 +24,8 @@ pub fn put_actions(file: &[u8], sizes: &[u8], count: usize, row: &[usize], out: 
     requires count_in_bounds { length (write_each write_step (flat (action_steps (length sizes.now)) 0 (actions_in file.now sizes.now row.now 0 count))) ≤ length out.old }
     ensures { Wrote (write_each write_step (flat (action_steps (length sizes.now)) 0 (actions_in file.now sizes.now row.now 0 count))) out.old out.new result }
 {
-    let mut at: usize = 0;
-    let mut a: usize = 0;
-    while a < count {
+    let mut at = 0;
+    for a in 0..count {
         let own = own_nodes(row, a);
         at += put_action(
             file,
@@ -37,7 +37,6 @@ pub fn put_actions(file: &[u8], sizes: &[u8], count: usize, row: &[usize], out: 
             a,
             &mut out[at..],
         );
-        a += 1;
     }
     at
 }
@@ -59,9 +58,10 @@ fn put_action(
 {
     let n = sizes.len();
     let count = byte_at(file, incoming + 2) as usize;
-    let start = put_start(file, at, effect, incoming, n, a, out);
+    let marks = Marks { n, a };
+    let start = put_start(file, at, effect, incoming, marks, out);
     let edges = start + put_nodes(file, sizes, nodes, count, a, &mut out[start..]);
-    edges + put_end(file, effect, incoming, count, n, a, &mut out[edges..])
+    edges + put_end(file, effect, incoming, count, marks, &mut out[edges..])
 }
 
 // The steps of the first `count` nodes at these offsets, of action a.
@@ -78,12 +78,10 @@ fn put_nodes(
     requires count_in_bounds { length (write_each write_step (flat (node_steps (length sizes.now) a) 1 (nodes_in file.now sizes.now nodes.now 0 count))) ≤ length out.old }
     ensures { Wrote (write_each write_step (flat (node_steps (length sizes.now) a) 1 (nodes_in file.now sizes.now nodes.now 0 count))) out.old out.new result }
 {
-    let mut at: usize = 0;
-    let mut j: usize = 0;
-    while j < count {
+    let mut at = 0;
+    for j in 0..count {
         let node = offset_at(nodes, j);
         at += put_node(file, sizes, node, a, (1 + j) as u8, &mut out[at..]);
-        j += 1;
     }
     at
 }
@@ -96,14 +94,12 @@ fn put_node(file: &[u8], sizes: &[u8], node: usize, a: usize, i: u8, out: &mut [
 {
     let n = sizes.len();
     let v = file[node] as usize;
-    let count = sizes[v] as usize;
-    let mut at: usize = 0;
+    let count = sizes[v];
+    let mut at = 0;
     let mut edge = node + 1;
-    let mut d: usize = 0;
-    while d < count {
-        at += put_edge(file, edge, n, a, i, v, d as u8, &mut out[at..]);
+    for d in 0..count {
+        at += put_edge(file, edge, Marks { n, a }, i, v, d, &mut out[at..]);
         edge += Task::EDGE_BYTES;
-        d += 1;
     }
     at
 }

@@ -1,5 +1,5 @@
 // The head of the probe file of a task: sizes, initial values and goal, then the step count.
-ghost use Rattle.std.specs.Prelude.{◌≡◌, ◌++◌, ℕ, ◌+◌, ◌*◌, ◌^◌, ◌≤◌, ◌<◌, length, get_or};
+ghost use Rattle.std.specs.Prelude.{◌≡◌, ◌++◌, ℕ, ◌+◌, ◌*◌, ◌^◌, ◌≤◌, ◌<◌, length, get_or, replicate};
 ghost use Rattle.facts.specs.Bytes.{bytes_of};
 ghost use Rattle.facts.specs.Partial.{partial_at, partial_bytes, write_partial};
 ghost use Rattle.facts.specs.Write.{Wrote};
@@ -63,13 +63,10 @@ fn put_markers(file: &[u8], actions: usize, row: &[usize], out: &mut [u8]) -> us
     requires actions_in_bounds { (actions ≤ length out.old) × (actions ≤ max_actions) }
     ensures { Wrote (markers_in file.now row.now 0 actions) out.old out.new result }
 {
-    let mut at: usize = 0;
-    let mut a: usize = 0;
-    while a < actions {
+    let mut at = 0;
+    for a in 0..actions {
         let incoming = offset_at(row, Task::INCOMING + a);
-        let size = byte_at(file, incoming + 2) as usize + 2;
-        at += put_byte(&mut out[at..], size as u8);
-        a += 1;
+        at += put_byte(&mut out[at..], byte_at(file, incoming + 2) + 2);
     }
     at
 }
@@ -80,12 +77,18 @@ fn put_init(file: &[u8], n: usize, actions: usize, out: &mut [u8]) -> usize
     requires actions_in_bounds { n + (1 + actions) ≤ length out.old }
     ensures { Wrote (init_in file.now n actions) out.old out.new result }
 {
-    let zeros: [u8; Task::MAX_MARKERS] = [0; Task::MAX_MARKERS];
     let from = 1 + n;
-    let end = from + n;
-    let further = 1 + actions;
-    let own = put_bytes(out, &file[from..end]);
-    own + put_bytes(&mut out[own..], &zeros[..further])
+    let own = put_bytes(out, &file[from..from + n]);
+    own + put_zeros(&mut out[own..], 1 + actions)
+}
+
+// So many zeros.
+fn put_zeros(out: &mut [u8], count: usize) -> usize
+    requires { count ≤ length out.old }
+    ensures { Wrote (replicate count 0) out.old out.new result }
+{
+    out[..count].fill(0);
+    count
 }
 
 // The goal: the task's, with semaphore and markers at 0.
@@ -94,7 +97,7 @@ fn put_goal(file: &[u8], n: usize, actions: usize, out: &mut [u8]) -> usize
     requires actions_in_bounds { length (write_partial (goal_in file.now n actions)) ≤ length out.old }
     ensures { Wrote (write_partial (goal_in file.now n actions)) out.old out.new result }
 {
-    let zeros: [u8; Task::MAX_MARKERS] = [0; Task::MAX_MARKERS];
+    let zeros = [0; Task::MAX_MARKERS];
     let further = 1 + actions;
     let bits = row_of_bits(n, further);
     let goal = 1 + 2 * n;

@@ -19,7 +19,7 @@ const EDGE_STEP: usize = 21;
 const START_AND_END: usize = 27;
 
 // Steps, and their bytes.
-#[derive(Clone, Copy)]
+#[derive(Clone, Copy, Debug, PartialEq, Eq)]
 pub struct Extent {
     pub steps: usize,
     pub bytes: usize,
@@ -32,17 +32,15 @@ pub fn extent_of(file: &[u8], sizes: &[u8], count: usize, row: &[usize]) -> Exte
     ensures steps_value { result.steps ≡ length (flat (action_steps (length sizes.now)) 0 (actions_in file.now sizes.now row.now 0 count)) }
     ensures bytes_value { result.bytes ≡ total step_bytes (flat (action_steps (length sizes.now)) 0 (actions_in file.now sizes.now row.now 0 count)) }
 {
-    let mut steps: usize = 0;
-    let mut bytes: usize = 0;
-    let mut a: usize = 0;
-    while a < count {
+    let mut steps = 0;
+    let mut bytes = 0;
+    for a in 0..count {
         let at = row[a];
         let incoming = offset_at(row, Task::INCOMING + a);
         let own = own_nodes(row, a);
         let edges = edge_count(file, sizes, &row[own..], byte_at(file, incoming + 2));
         steps += 2 + edges;
         bytes += START_AND_END + (incoming - at) + EDGE_STEP * edges;
-        a += 1;
     }
     Extent { steps, bytes }
 }
@@ -52,12 +50,10 @@ fn edge_count(file: &[u8], sizes: &[u8], nodes: &[usize], count: u8) -> usize
     requires { (j : ℕ) → j < count → Tests file.now sizes.now (get_or nodes.now j 0) }
     ensures { (result ≡ total edge_count (nodes_in file.now sizes.now nodes.now 0 count)) × (result ≤ 255 * count) }
 {
-    let mut edges: usize = 0;
-    let mut j: u8 = 0;
-    while j < count {
+    let mut edges = 0;
+    for j in 0..count {
         let variable = file[offset_at(nodes, j as usize)] as usize;
         edges += sizes[variable] as usize;
-        j += 1;
     }
     edges
 }

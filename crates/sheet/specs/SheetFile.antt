@@ -1,12 +1,9 @@
 -- The operation: the sheet of a plan of a task file. Document 02, W12: "An empty plan prints that line alone. Lists that are no plan, and short buffers, are turned down as in a run."
 use Rattle.std.specs.Prelude.{ℕ, List}
-use Rattle.facts.specs.Refusal.{number, place}
-use Rattle.facts.specs.Read.{Read, accepted, refused, ◌>>=◌}
+use Rattle.facts.specs.Read.{Read, accepted, ◌>>=◌}
 use Rattle.facts.specs.Run.{at_most}
 use Rattle.taskfile.specs.Task.{max_list, task_sum}
 use Rattle.taskfile.specs.TaskFile.{read_task}
-use Rattle.sheet.specs.declared.Sheeted.{Sheeted}
-use Rattle.sheet.specs.declared.Sheeted.TheVariants.{Length, Refused}
 use Rattle.sheet.specs.Sheet.{sheet_text}
 
 -- The sheet and the sum: 1 to 6 for the file, 8, then per action 11 before 9, and 10 at the end. Answer and buffer are those of every operation that answers a sum and writes, `answer_in` and `buffer_in`: 7 comes last.
@@ -16,8 +13,3 @@ sheet_of f list = do
   _ ← at_most max_list list
   sum ← task_sum t list
   accepted (sheet_text t list sum, sum)
-
--- how many bytes the sheet has, and the sum
-abbrev pub sheeted_answer : Sheeted → Read (ℕ × ℕ)
-sheeted_answer (Length n sum) = accepted (n, sum)
-sheeted_answer (Refused why) = refused (number why) (place why)

@@ -4,7 +4,12 @@ use Rattle.std.proofs.Common.{sym, ap, subst, subst₂, ◌∙◌, arith, length
 use mathlib.Core.List.{List, [], ◌∷◌, ◌++◌, append-nil, append_assoc}
 use Rattle.std.specs.Int.Count.{ones}
 use Rattle.std.proofs.Math.ListN.{take}
+use Rattle.std.specs.Prelude.{Result, Ok, Err}
+use Rattle.std.specs.Result.{IsOk}
+use Rattle.facts.specs.declared.Refusal.{Refusal}
+use Rattle.facts.specs.Answers.{answer}
 use Rattle.facts.specs.Read.{accepted}
+use Rattle.facts.specs.ReadLaws.{not_refused}
 use Rattle.facts.specs.Write.{over, fitting, Wrote}
 use Rattle.facts.specs.WriteLaws.{fitting_all}
 use Rattle.facts.specs.Bytes.{bytes_of, number_at}
@@ -22,6 +27,11 @@ use Rattle.compilation.specs.Extend.{extend}
 use Rattle.compilation.specs.Compile.{marker, edge_step}
 use Rattle.taskfile.specs.PartsInPlace.{edge_in}
 use Rattle.step_writer.specs.InPlace.{widened, start_in, end_in}
+
+-- An answer that is accepted is a value.
+pub ok_accepted : {X : Type 0} (r : Result X Refusal) {x : X} → answer r ≡ accepted x → IsOk r
+ok_accepted (Ok x) h = refl
+ok_accepted (Err why) h = absurd (not_refused h)
 
 -- What fits is written whole.
 pub wrote_fit : {bytes before now : List ℕ} {n : ℕ} → length bytes ≤ length before → Wrote (fitting bytes before) before now n → Wrote bytes before now n
@@ -120,32 +130,37 @@ module _ (f : List ℕ) (at k : ℕ) (three : k ≡ edge_bytes) where
       word_is edge 1 (omega (arith, long)) (omega (arith, number_two edge 1 (omega (arith, long)), number_two f (at + 1) (omega arith), low, high)) ∙ sym (word_is f (at + 1) (omega arith) refl)
 
 -- An edge's step is written from the bytes of its edge.
-pub wrote_edge : {before now : List ℕ} {k : ℕ} (f : List ℕ) (at n a i v d : ℕ) {t w : ℕ} → t ≡ get_or f at 0 → w ≡ word_at f (at + 1)
-    → Wrote ((write_partial (extend (extend empty v d) (n + (1 + a)) i) ++ write_partial (extend empty (n + (1 + a)) t)) ++ bytes_of 2 w) before now k
-    → Wrote (write_step (edge_step n a i v d (edge_in f at))) before now k
-wrote_edge {before} {now} {k} f at n a i v d {t} {w} e g h =
-    let m : Wrote ((write_partial (extend (extend empty v d) (marker n a) i) ++ write_partial (extend empty (marker n a) t)) ++ bytes_of 2 w) before now k =
-    subst (λ (x : ℕ). Wrote ((write_partial (extend (extend empty v d) x i) ++ write_partial (extend empty x t)) ++ bytes_of 2 w) before now k) (marker_is n a) h in
+pub wrote_edge : {before now : List ℕ} {k m : ℕ} (f : List ℕ) (at n a i v d : ℕ) {t w : ℕ} → m ≡ n + (1 + a) → t ≡ get_or f at 0 → w ≡ word_at f (at + 1)
+    → Wrote ((write_partial (extend (extend empty v d) m i) ++ write_partial (extend empty m t)) ++ bytes_of 2 w) before now k → Wrote (write_step (edge_step n a i v d (edge_in f at))) before now k
+wrote_edge {before} {now} {k} {m} f at n a i v d {t} {w} q e g h =
+    let own : Wrote ((write_partial (extend (extend empty v d) (marker n a) i) ++ write_partial (extend empty (marker n a) t)) ++ bytes_of 2 w) before now k =
+    subst (λ (x : ℕ). Wrote ((write_partial (extend (extend empty v d) x i) ++ write_partial (extend empty x t)) ++ bytes_of 2 w) before now k) (q ∙ marker_is n a) h in
     wrote_step (extend (extend empty v d) (marker n a) i) (extend empty (marker n a) (get_or f at 0)) (word_at f (at + 1))
-    (subst₂ (λ (x y : ℕ). Wrote ((write_partial (extend (extend empty v d) (marker n a) i) ++ write_partial (extend empty (marker n a) x)) ++ bytes_of 2 y) before now k) e g m)
+    (subst₂ (λ (x y : ℕ). Wrote ((write_partial (extend (extend empty v d) (marker n a) i) ++ write_partial (extend empty (marker n a) x)) ++ bytes_of 2 y) before now k) e g own)
 
 -- An action's start is written from the bytes of the action.
-pub wrote_start : {before now : List ℕ} {k : ℕ} (f : List ℕ) (at n a : ℕ) {i w : ℕ} → i ≡ incoming_place f at → w ≡ word_at f i
-    → Wrote ((write_partial (extend (extend (partial_at f at) n 0) (n + (1 + a)) 0) ++ write_partial (extend (extend empty n 1) (n + (1 + a)) 1)) ++ bytes_of 2 w) before now k
+pub wrote_start : {before now : List ℕ} {k m : ℕ} (f : List ℕ) (at n a : ℕ) {i w : ℕ} → m ≡ n + (1 + a) → i ≡ incoming_place f at → w ≡ word_at f i
+    → Wrote ((write_partial (extend (extend (partial_at f at) n 0) (n + (1 + a)) 0) ++ write_partial (extend (extend empty n 1) m 1)) ++ bytes_of 2 w) before now k
     → Wrote (write_step (start_in f n a at)) before now k
-wrote_start {before} {now} {k} f at n a i w h =
+wrote_start {before} {now} {k} {m} f at n a {i} {w} q e g h =
+    let own : Wrote ((write_partial (extend (extend (partial_at f at) n 0) (marker n a) 0) ++ write_partial (extend (extend empty n 1) (marker n a) 1)) ++ bytes_of 2 w) before now k =
+    subst₂ (λ (x y : ℕ). Wrote ((write_partial (extend (extend (partial_at f at) n 0) x 0) ++ write_partial (extend (extend empty n 1) y 1)) ++ bytes_of 2 w) before now k)
+    (marker_is n a) (q ∙ marker_is n a) h in
     wrote_step (extend (extend (partial_at f at) n 0) (marker n a) 0) (extend (extend empty n 1) (marker n a) 1) (word_at f (incoming_place f at))
-    (subst₂ (λ (x y : ℕ). Wrote ((write_partial (extend (extend (partial_at f at) n 0) x 0) ++ write_partial (extend (extend empty n 1) x 1)) ++ bytes_of 2 y) before now k)
-    (marker_is n a) (w ∙ ap (word_at f) i) h)
+    (subst (λ (y : ℕ). Wrote ((write_partial (extend (extend (partial_at f at) n 0) (marker n a) 0) ++ write_partial (extend (extend empty n 1) (marker n a) 1)) ++ bytes_of 2 y) before now k)
+    (g ∙ ap (word_at f) e) own)
 
 -- An action's end is written from the bytes of its effect.
-pub wrote_end : {before now : List ℕ} {k : ℕ} (f : List ℕ) (effect n a count : ℕ)
-    → Wrote ((write_partial (extend empty (n + (1 + a)) (1 + count)) ++ write_partial (extend (extend (partial_at f effect) n 0) (n + (1 + a)) 0)) ++ bytes_of 2 0) before now k
+pub wrote_end : {before now : List ℕ} {k m : ℕ} (f : List ℕ) (effect n a count : ℕ) → m ≡ n + (1 + a)
+    → Wrote ((write_partial (extend empty m (1 + count)) ++ write_partial (extend (extend (partial_at f effect) n 0) (n + (1 + a)) 0)) ++ bytes_of 2 0) before now k
     → Wrote (write_step (end_in f n a effect count)) before now k
-wrote_end {before} {now} {k} f effect n a count h =
+wrote_end {before} {now} {k} {m} f effect n a count q h =
     let c : 1 + count ≡ suc count = omega arith in
+    let own : Wrote ((write_partial (extend empty (marker n a) (1 + count)) ++ write_partial (extend (extend (partial_at f effect) n 0) (marker n a) 0)) ++ bytes_of 2 0) before now k =
+    subst₂ (λ (x y : ℕ). Wrote ((write_partial (extend empty x (1 + count)) ++ write_partial (extend (extend (partial_at f effect) n 0) y 0)) ++ bytes_of 2 0) before now k)
+    (q ∙ marker_is n a) (marker_is n a) h in
     wrote_step (extend empty (marker n a) (suc count)) (extend (extend (partial_at f effect) n 0) (marker n a) 0) 0
-    (subst₂ (λ (x y : ℕ). Wrote ((write_partial (extend empty x y) ++ write_partial (extend (extend (partial_at f effect) n 0) x 0)) ++ bytes_of 2 0) before now k) (marker_is n a) c h)
+    (subst (λ (y : ℕ). Wrote ((write_partial (extend empty (marker n a) y) ++ write_partial (extend (extend (partial_at f effect) n 0) (marker n a) 0)) ++ bytes_of 2 0) before now k) c own)
 
 -- Two further facts at 0.
 pub cleared_is : (p : Partial) (n m : ℕ) {bits : ℕ} → bits ≡ 2 ^ n + 2 ^ m → widened p bits (0 ∷ 0 ∷ []) ≡ extend (extend p n 0) m 0

@@ -7,7 +7,8 @@ ghost use Rattle.probefile.specs.Probe.{max_variables};
 ghost use Rattle.compilation.specs.Extend.{extend};
 ghost use Rattle.step_writer.specs.InPlace.{widened};
 
-use facts::Field;
+use facts::number::read_map;
+use facts::write::write_partial;
 
 // The bytes of a partial state with one fact, and with two: lent just these, its writer has nothing to test.
 const ONE_FACT: usize = 9;
@@ -28,9 +29,7 @@ pub fn put_word(out: &mut [u8], number: u32) -> usize
     requires { 2 ≤ length out.old }
     ensures { Wrote (bytes_of 2 number) out.old out.new result }
 {
-    let upper = number / 256;
-    out[0] = (number % 256) as u8;
-    out[1] = (upper % 256) as u8;
+    out[..2].copy_from_slice(&number.to_le_bytes()[..2]);
     2
 }
 
@@ -74,14 +73,9 @@ pub fn put_extended(
     requires further_in_bounds { length (write_partial (widened (partial_at file.now at) bits further.now)) ≤ length out.old }
     ensures { Wrote (write_partial (widened (partial_at file.now at) bits further.now)) out.old out.new result }
 {
-    match facts::number::read_map(file, at) {
-        Field::Refused(_) => 0,
-        Field::Value(map) => {
-            let from = at + 8;
-            facts::write::write_partial(out, map + bits, &file[from..end], further);
-            end - at + further.len()
-        }
-    }
+    let map = read_map(file, at).unwrap();
+    write_partial(out, map + bits, &file[at + 8..end], further);
+    end - at + further.len()
 }
 
 // The facts of two variables, the lower one's first.
@@ -89,9 +83,7 @@ pub fn put_two(v: usize, x: u8, w: usize, y: u8, out: &mut [u8]) -> usize
     requires { (v < max_variables) × (w < max_variables) × (10 ≤ length out.old) }
     ensures { Wrote (write_partial (extend (extend empty v x) w y)) out.old out.new result }
 {
-    let lower = [x];
-    let upper = [y];
-    facts::write::write_partial(&mut out[..TWO_FACTS], two_bits(v, w), &lower, &upper)
+    write_partial(&mut out[..TWO_FACTS], two_bits(v, w), &[x], &[y])
 }
 
 // The fact of one variable.
@@ -99,7 +91,5 @@ pub fn put_one(v: usize, x: u8, out: &mut [u8]) -> usize
     requires { (v < max_variables) × (9 ≤ length out.old) }
     ensures { Wrote (write_partial (extend empty v x)) out.old out.new result }
 {
-    let none: [u8; 0] = [];
-    let value = [x];
-    facts::write::write_partial(&mut out[..ONE_FACT], bit(v), &none, &value)
+    write_partial(&mut out[..ONE_FACT], bit(v), &[], &[x])
 }

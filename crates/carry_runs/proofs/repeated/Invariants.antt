@@ -1,9 +1,6 @@
 -- `carry_runs::repeated`: three entries a turn, 257 turns, and the array keeps its length.
-use Rattle.std.proofs.Common.{◌-◌, ◌≡◌, length, ◌≤◌}
+use Rattle.std.proofs.Common.{◌≡◌, length}
 use Rattle.carry_runs.proofs.repeated.Given as goal
 
 abbrev pub invariant-loop-i : goal.invariant-loop-i
-invariant-loop-i l = (l.i ≤ 257) × (length l.list ≡ 771)
-
-abbrev pub decreases-loop-i : goal.decreases-loop-i
-decreases-loop-i l = 257 - l.i
+invariant-loop-i l = length l.list ≡ 771

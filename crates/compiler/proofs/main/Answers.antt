@@ -7,8 +7,8 @@ use Rattle.compiler.proofs.main.Goals as goal
 
 -- src/main.rt:19:34
 pub slice_bounds-output-end : goal.slice_bounds-output-end
-slice_bounds-output-end c = omega (arith, answer_fits _ _ (sym c.in-Length.ensures.result_value), c.compile.auto.out)
+slice_bounds-output-end c = omega (arith, answer_fits _ _ (sym c.in-Ok.ensures.result_value), c.compile.auto.out)
 
 -- src/main.rt:19:34
 pub slice_bounds-write_all-end : goal.slice_bounds-write_all-end
-slice_bounds-write_all-end c = sym (length-take-le _ _ (omega (arith, answer_fits _ _ (sym c.in-Length.ensures.result_value), c.compile.auto.out)))
+slice_bounds-write_all-end c = sym (length-take-le _ _ (omega (arith, answer_fits _ _ (sym c.in-Ok.ensures.result_value), c.compile.auto.out)))

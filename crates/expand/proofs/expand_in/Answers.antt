@@ -1,4 +1,4 @@
--- `expand::expand_in` meets its contract: a list that is too long, and else a buffer with room for all that may come. Assumes nothing.
+-- `expand::expand_in` meets its contract: a list that is too long, and else a buffer with room for all that may come.
 use Rattle.taskfile.specs.PartsInPlaceLaws.{reads}
 use Rattle.numbering.specs.ExpandLaws.{expand_long}
 use Rattle.carry.specs.AnswerLaws.{refused_in}

@@ -1,4 +1,4 @@
--- `expansion::put_plan` meets its contract: the parts in place are the task's, and the state is the initial one. Assumes nothing.
+-- `expansion::put_plan` meets its contract: the parts in place are the task's, and the state is the initial one.
 use Prim.Native.Nat.{ℕ, ◌+◌, ◌*◌, ◌-◌, ◌≤◌}
 use mathlib.Core.Path.{◌≡◌, sym, ap, ◌∙◌}
 use mathlib.Core.List.{List}
@@ -15,11 +15,11 @@ use Rattle.expansion.proofs.put_plan.Goals as goal
 use Rattle.expansion.proofs.put_plan.Goals.{After-initial-state, Start}
 
 -- the file's task, and where its parts stand
-abbrev task : (c : goal.Start) → There c.args.file.now c.requires.0
-task c = there c.args.file.now c.requires.0
+abbrev task : (c : goal.Start) → There c.args.file.now c.requires.ready
+task c = there c.args.file.now c.requires.ready
 
-begins : (c : goal.Start) → Starts c.args.file.now c.requires.0
-begins c = starts c.args.file.now c.requires.0
+begins : (c : goal.Start) → Starts c.args.file.now c.requires.ready
+begins c = starts c.args.file.now c.requires.ready
 
 -- the domain sizes as they stand
 sizes_are : (c : goal.Start) → take (1 + c.args.variables - 1) (drop 1 c.args.file.now) ≡ (task c).task.sizes
@@ -27,10 +27,10 @@ sizes_are c = let same : 1 + c.args.variables - 1 ≡ c.args.variables = omega a
 
 -- the state has a value for each variable, and they are the initial ones
 long : (c : goal.After-initial-state) → c.args.variables ≤ length c.initial-state.result
-long c = omega (arith, c.initial-state.ensures.1, ((starts c.args.file.now c.requires.0)).variables)
+long c = omega (arith, c.initial-state.ensures.1, ((starts c.args.file.now c.requires.ready)).variables)
 
-state_is : (c : goal.After-initial-state) → take c.args.variables c.initial-state.result ≡ ((there c.args.file.now c.requires.0)).task.init
-state_is c = c.initial-state.ensures.0 ∙ ((starts c.args.file.now c.requires.0)).init
+state_is : (c : goal.After-initial-state) → take c.args.variables c.initial-state.result ≡ ((there c.args.file.now c.requires.ready)).task.init
+state_is c = c.initial-state.ensures.0 ∙ ((starts c.args.file.now c.requires.ready)).init
 
 pub overflow_add-last : goal.overflow_add-last
 overflow_add-last c = omega (arith, (begins (goal.at.overflow_add-last c).Start).variables)
@@ -38,11 +38,11 @@ overflow_add-last c = omega (arith, (begins (goal.at.overflow_add-last c).Start)
 pub slice_bounds-sizes-end : goal.slice_bounds-sizes-end
 slice_bounds-sizes-end c = omega (arith, (begins (goal.at.slice_bounds-sizes-end c).Start).fits)
 
-pub number_steps-requires-clause-actions_in_bounds : goal.number_steps-requires-clause-actions_in_bounds
-number_steps-requires-clause-actions_in_bounds c = omega (arith, (begins (goal.at.number_steps-requires-clause-actions_in_bounds c).Start).actions)
+pub note-requires-clause-actions_bound : goal.note-requires-clause-actions_bound
+note-requires-clause-actions_bound c = omega (arith, (begins (goal.at.note-requires-clause-actions_bound c).Start).actions)
 
-pub number_steps-requires-clause-rows : goal.number_steps-requires-clause-rows
-number_steps-requires-clause-rows c = (rows_there c.args.file.now c.requires.0 (sizes_are (goal.at.number_steps-requires-clause-rows c).Start) (omega arith), all_tested c.args.file.now c.requires.0)
+pub note-requires-clause-rows : goal.note-requires-clause-rows
+note-requires-clause-rows c = (rows_there c.args.file.now c.requires.ready (sizes_are (goal.at.note-requires-clause-rows c).Start) (omega arith), all_tested c.args.file.now c.requires.ready)
 
 pub initial-state-requires : goal.initial-state-requires
 initial-state-requires c = let b = begins (goal.at.initial-state-requires c).Start in (b.variables, b.fits)
@@ -50,13 +50,19 @@ initial-state-requires c = let b = begins (goal.at.initial-state-requires c).Sta
 pub slice_bounds-state-end : goal.slice_bounds-state-end
 slice_bounds-state-end c = long (goal.at.slice_bounds-state-end c).After-initial-state
 
-pub slice_bounds-put_list-end-3 : goal.slice_bounds-put_list-end-3
-slice_bounds-put_list-end-3 c = sym (length-take-le c.args.variables c.initial-state.result (long (goal.at.slice_bounds-put_list-end-3 c).After-initial-state))
+pub slice_bounds-put_list-end : goal.slice_bounds-put_list-end
+slice_bounds-put_list-end c = sym (length-take-le c.args.variables c.initial-state.result (long (goal.at.slice_bounds-put_list-end c).After-initial-state))
 
 pub put_list-requires-clause-prepared : goal.put_list-requires-clause-prepared
-put_list-requires-clause-prepared c =
+put_list-requires-clause-prepared c = prepared c.args.file.now c.requires.ready (sizes_are (goal.at.put_list-requires-clause-prepared c).Start) c.note.ensures.numbered
+
+pub put_list-requires-clause-actions_bound : goal.put_list-requires-clause-actions_bound
+put_list-requires-clause-actions_bound c = (begins (goal.at.put_list-requires-clause-actions_bound c).Start).actions
+
+pub put_list-requires-clause-inside : goal.put_list-requires-clause-inside
+put_list-requires-clause-inside c =
     let f = c.args.file.now in
-    (prepared f c.requires.0 (sizes_are (goal.at.put_list-requires-clause-prepared c).Start) c.number_steps.ensures, init_inside f c.requires.0 (sizes_are (goal.at.put_list-requires-clause-prepared c).Start) (state_is (goal.at.put_list-requires-clause-prepared c).After-initial-state))
+    init_inside f c.requires.ready (sizes_are (goal.at.put_list-requires-clause-inside c).Start) (state_is (goal.at.put_list-requires-clause-inside c).After-initial-state)
 
 pub returns : goal.returns
 returns c =
@@ -64,5 +70,5 @@ returns c =
     let f = x.file.now in
     let list = x.list.now in
     let put = c.put_list in
-    let ran = ap (λ (state : List ℕ). run_list x.actions (move_at f x.row.now) (partial_at f (1 + 2 * x.variables)) list state) c.initial-state.ensures.0 ∙ sym (sum_is f c.requires.0 list) in
-    wrote_expansion f c.requires.0 list x.out.now put.new.out put.result (sizes_are (goal.at.returns c).Start) (state_is (goal.at.returns c).After-initial-state) ran put.ensures
+    let ran = ap (λ (state : List ℕ). run_list x.actions (move_at f x.row.now) (partial_at f (1 + 2 * x.variables)) list state) c.initial-state.ensures.0 ∙ sym (sum_is f c.requires.ready list) in
+    wrote_expansion f c.requires.ready list x.out.now put.new.out put.result (sizes_are (goal.at.returns c).Start) (state_is (goal.at.returns c).After-initial-state) ran put.ensures

@@ -1,4 +1,4 @@
--- `numbering::number_edges` meets its contract: the first edge of each node comes after the edges of the nodes before it. Assumes nothing.
+-- `numbering::number_edges` meets its contract: the first edge of each node comes after the edges of the nodes before it.
 use Prim.Native.Nat.{◌+◌, ◌≤◌}
 use mathlib.Core.Path.{◌≡◌, ◌∙◌}
 use native.Mathlib.Omega.{arith}
@@ -28,13 +28,9 @@ long c = let a = c.args in omega (arith, c.requires.0, nodes_long a.file.now a.s
 
 -- the number after this node's edges
 small : (c : goal.After-byte_at) → c.loop-j.next + c.byte_at.result ≤ max_steps
-small c = omega (
-  arith,
-  c.requires.1,
-  edging_small c.loop-j.invariant ((let a = c.args in
-      nodes_at a.file.now a.sizes.now a.nodes.now 0 a.count c.loop-j.j c.loop-j.j c.loop-j-test.true (omega arith))),
-  edges c,
-)
+small c =
+    let a = c.args in
+    omega (arith, c.requires.1, edging_small c.loop-j.invariant (nodes_at a.file.now a.sizes.now a.nodes.now 0 a.count c.loop-j.j c.loop-j.j c.loop-j-test.true (omega arith)), edges c)
 
 pub overflow_add-next : goal.overflow_add-next
 overflow_add-next c = omega (arith, small c)
@@ -43,7 +39,7 @@ pub loop-j-preserved : goal.loop-j-preserved
 loop-j-preserved c = edging_next c.loop-j.invariant (node (goal.at.loop-j-preserved c).In-loop-j) (long (goal.at.loop-j-preserved c).Start) (edges c)
 
 pub returns-clause-value : goal.returns-clause-value
-returns-clause-value c = let a = c.args in (edging_end c.loop-j.invariant (omega (arith, c.loop-j-test.false, nodes_long a.file.now a.sizes.now a.nodes.now 0 a.count))).0
+returns-clause-value c = let a = c.args in (edging_end c.loop-j.invariant (omega (arith, nodes_long a.file.now a.sizes.now a.nodes.now 0 a.count))).0
 
 pub returns-clause-edges : goal.returns-clause-edges
-returns-clause-edges c = let a = c.args in (edging_end c.loop-j.invariant (omega (arith, c.loop-j-test.false, nodes_long a.file.now a.sizes.now a.nodes.now 0 a.count))).1
+returns-clause-edges c = let a = c.args in (edging_end c.loop-j.invariant (omega (arith, nodes_long a.file.now a.sizes.now a.nodes.now 0 a.count))).1

@@ -1,4 +1,4 @@
--- `sheet::put_sheet` meets its contract: a buffer that is too short, or the text. Assumes nothing.
+-- `sheet::put_sheet` meets its contract: a buffer that is too short, or the text.
 use Prim.Native.Nat.{◌+◌, ◌*◌}
 use mathlib.Core.Path.{◌≡◌, refl, sym}
 use mathlib.Core.List.{◌++◌}
@@ -13,7 +13,7 @@ use Rattle.sheet.proofs.put_sheet.Goals.{Start}
 
 -- how long the sheet is
 long : (c : goal.Start) → length (lines_text (entries_from 0 0 c.args.list.now c.args.costs.now) ++ last_text c.args.sum) ≡ line_bytes * (length c.args.list.now + 1)
-long c = text_long c.args.list.now c.args.costs.now c.requires.1 c.requires.2 c.requires.3
+long c = text_long c.args.list.now c.args.costs.now c.requires.all c.requires.narrow c.requires.small
 
 pub returns-then-out-needed-clause-result_value : goal.returns-then-out-needed-clause-result_value
 returns-then-out-needed-clause-result_value c = (short_in {c = c.args.sum} refl c.args.out.now (sym (long (goal.at.returns-then-out-needed-clause-result_value c).Start)) c.if-out-needed.true).0

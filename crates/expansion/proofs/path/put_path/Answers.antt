@@ -1,4 +1,4 @@
--- `expansion::path::put_path` meets its contract: what is written and what is left are together the action's entries, and so are what is paid and what is left to pay. Assumes nothing.
+-- `expansion::path::put_path` meets its contract: what is written and what is left are together the action's entries, and so are what is paid and what is left to pay.
 use mathlib.Core.Path.{◌≡◌, refl, ◌∙◌}
 use Prim.Native.Nat.{◌+◌, ◌*◌, ◌<◌}
 use native.Mathlib.Omega.{arith}
@@ -10,8 +10,8 @@ use Rattle.expansion.proofs.path.put_path.Goals as goal
 use Rattle.expansion.proofs.path.put_path.Goals.{After-edge_for-edge, After-loop-k, After-offset_at-in-loop-k, Start}
 
 -- the start is written before the loop, and the buffer is as long as it was
-long : (c : goal.Start) → length (set c.args.out.now 0 c.args.first) ≡ length c.args.out.now
-long c = length-set c.args.out.now 0 c.args.first
+long : (c : goal.Start) → length (set c.args.out.now 0 c.args.steps.first) ≡ length c.args.out.now
+long c = length-set c.args.out.now 0 c.args.steps.first
 
 -- the node of this turn, and the state's value there
 here : (c : goal.After-edge_for-edge) → let a = c.args in Visited a.file.now a.sizes.now a.nodes.now a.count a.state.now c.loop-k.k c.offset_at-node.result c.byte_at-value.result c.edge_for-edge.result.target
@@ -29,25 +29,25 @@ there c =
 small : (c : goal.After-offset_at-in-loop-k) → c.offset_at-in-loop-k.result + c.byte_at-value.result < max_steps
 small c =
     let a = c.args in
-    omega (arith, passing_small a.file.now a.sizes.now a.nodes.now a.count c.requires.1 c.loop-k.invariant ((length-set c.args.out.now 0 c.args.first)) (there c) c.offset_at-in-loop-k.ensures, c.requires.1.few)
+    omega (arith, passing_small a.file.now a.sizes.now a.nodes.now a.count c.requires.1 c.loop-k.invariant ((length-set c.args.out.now 0 c.args.steps.first)) (there c) c.offset_at-in-loop-k.ensures, c.requires.1.few)
 
 room : (c : goal.After-offset_at-in-loop-k) → c.loop-k.written < length c.loop-k.out
 room c =
     let a = c.args in
-    passing_room a.file.now a.sizes.now a.nodes.now a.count c.requires.1 c.loop-k.invariant ((length-set c.args.out.now 0 c.args.first)) (there c) c.offset_at-in-loop-k.ensures
+    passing_room a.file.now a.sizes.now a.nodes.now a.count c.requires.1 c.loop-k.invariant ((length-set c.args.out.now 0 c.args.steps.first)) (there c) c.offset_at-in-loop-k.ensures
 
 -- there is room for the end
 end-room : (c : goal.After-loop-k) → c.loop-k.written < length c.loop-k.out
 end-room c =
     let a = c.args in
-    last_room a.file.now a.sizes.now a.nodes.now a.count c.requires.1 c.loop-k.invariant ((length-set c.args.out.now 0 c.args.first)) c.loop-k-test.false
+    last_room a.file.now a.sizes.now a.nodes.now a.count c.requires.1 c.loop-k.invariant ((length-set c.args.out.now 0 c.args.steps.first)) c.loop-k-test.false
 
 -- the buffer is as long as it was
 same : (c : goal.After-loop-k) → length c.loop-k.out ≡ length c.args.out.now
-same c = going_same c.loop-k.invariant.going (omega (arith, c.requires.1.fits, (length-set c.args.out.now 0 c.args.first))) ∙ (length-set c.args.out.now 0 c.args.first)
+same c = going_same c.loop-k.invariant.going (omega (arith, c.requires.1.fits, (length-set c.args.out.now 0 c.args.steps.first))) ∙ (length-set c.args.out.now 0 c.args.steps.first)
 
 same-now : (c : goal.After-offset_at-in-loop-k) → length c.loop-k.out ≡ length c.args.out.now
-same-now c = going_same c.loop-k.invariant.going (omega (arith, c.requires.1.fits, (length-set c.args.out.now 0 c.args.first))) ∙ (length-set c.args.out.now 0 c.args.first)
+same-now c = going_same c.loop-k.invariant.going (omega (arith, c.requires.1.fits, (length-set c.args.out.now 0 c.args.steps.first))) ∙ (length-set c.args.out.now 0 c.args.steps.first)
 
 pub loop-k-init : goal.loop-k-init
 loop-k-init c = let a = c.args in passing_start a.file.now a.sizes.now a.nodes.now a.count c.requires.1 a.out.now refl

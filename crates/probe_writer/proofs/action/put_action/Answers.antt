@@ -1,4 +1,4 @@
--- `probe_writer::action::put_action` meets its contract: the start, the steps of the nodes and the end, each straight after the last. Assumes nothing.
+-- `probe_writer::action::put_action` meets its contract: the start, the steps of the nodes and the end, each straight after the last.
 use Prim.Native.Nat.{ℕ, ◌+◌, ◌≤◌, ◌<◌}
 use mathlib.Core.Path.{◌≡◌, sym, subst}
 use mathlib.Core.List.{List, ◌++◌}
@@ -72,7 +72,7 @@ pub slice_bounds-put_end-start : goal.slice_bounds-put_end-start
 slice_bounds-put_end-start c = wrote_inside {bytes = start (goal.at.slice_bounds-put_end-start c).After-byte_at-count ++ nodes (goal.at.slice_bounds-put_end-start c).After-byte_at-count} (wrote_then c.put_start-start.ensures c.put_nodes.ensures) (omega (arith, fits (goal.at.slice_bounds-put_end-start c).After-byte_at-count, two_long (goal.at.slice_bounds-put_end-start c).After-byte_at-count))
 
 pub put_end-requires-clause-stands : goal.put_end-requires-clause-stands
-put_end-requires-clause-stands c = let f = c.args.file.now in (subst (Stands f (length c.args.sizes.now)) (sym (effect_is (goal.at.put_end-requires-clause-stands c).After-byte_at-count)) c.requires.stood.0.eff, incoming_past f c.args.at (effect_is (goal.at.put_end-requires-clause-stands c).After-byte_at-count) c.requires.stood.2, omega (arith, c.requires.stood.3, c.requires.stood.4), few (goal.at.put_end-requires-clause-stands c).After-byte_at-count)
+put_end-requires-clause-stands c = let f = c.args.file.now in (subst (Stands f (length c.args.sizes.now)) (sym (effect_is (goal.at.put_end-requires-clause-stands c).After-byte_at-count)) c.requires.stood.0.eff, incoming_past f c.args.at (effect_is (goal.at.put_end-requires-clause-stands c).After-byte_at-count) c.requires.stood.2, few (goal.at.put_end-requires-clause-stands c).After-byte_at-count)
 
 pub put_end-requires-clause-count_in_bounds : goal.put_end-requires-clause-count_in_bounds
 put_end-requires-clause-count_in_bounds c = let f = c.args.file.now in wrote_room {bytes = start (goal.at.put_end-requires-clause-count_in_bounds c).After-byte_at-count ++ nodes (goal.at.put_end-requires-clause-count_in_bounds c).After-byte_at-count} (wrote_then c.put_start-start.ensures c.put_nodes.ensures) (omega (arith, fits (goal.at.put_end-requires-clause-count_in_bounds c).After-byte_at-count, two_long (goal.at.put_end-requires-clause-count_in_bounds c).After-byte_at-count))

@@ -1,4 +1,4 @@
--- `probe_writer::action::put_actions` meets its contract: what is written and what is left are together the steps of all actions. Assumes nothing.
+-- `probe_writer::action::put_actions` meets its contract: what is written and what is left are together the steps of all actions.
 use Prim.Native.Nat.{ℕ, ◌+◌, ◌-◌}
 use mathlib.Core.Path.{◌≡◌, sym, subst, ◌∙◌}
 use mathlib.Core.List.{List}
@@ -30,7 +30,7 @@ cut : (c : goal.After-own_nodes-own) → let x = c.args in let a = c.loop-a.a in
 cut c = let x = c.args in actions_cut x.file.now x.sizes.now x.row.now x.count c.loop-a.a (own c) c.loop-a-test.true
 
 pub loop-a-init : goal.loop-a-init
-loop-a-init c = let x = c.args in (omega arith, actions_start x.file.now x.sizes.now x.row.now x.count x.out.now)
+loop-a-init c = let x = c.args in actions_start x.file.now x.sizes.now x.row.now x.count x.out.now
 
 pub put_action-at-requires-clause-stood : goal.put_action-at-requires-clause-stood
 put_action-at-requires-clause-stood c =
@@ -49,18 +49,18 @@ put_action-at-requires-clause-nodes_in_bounds c =
     let x = c.args in
     let l = c.loop-a in
     let taken = c.loop-a-test.true in
-    going_room l.invariant.1 c.requires.count_in_bounds (cut (goal.at.put_action-at-requires-clause-nodes_in_bounds c).After-own_nodes-own)
+    going_room l.invariant c.requires.count_in_bounds (cut (goal.at.put_action-at-requires-clause-nodes_in_bounds c).After-own_nodes-own)
 
 pub overflow_add-at : goal.overflow_add-at
 overflow_add-at c =
     let fits = c.requires.count_in_bounds in
-    let g = going_more c.loop-a.invariant.1 fits (cut (goal.at.overflow_add-at c).After-own_nodes-own) c.put_action-at.ensures in
+    let g = going_more c.loop-a.invariant fits (cut (goal.at.overflow_add-at c).After-own_nodes-own) c.put_action-at.ensures in
     omega (arith, going_inside g fits, going_same g fits, c.well_formed)
 
 pub loop-a-preserved : goal.loop-a-preserved
-loop-a-preserved c = (omega (arith, c.loop-a-test.true), going_more c.loop-a.invariant.1 c.requires.count_in_bounds (cut (goal.at.loop-a-preserved c).After-own_nodes-own) c.put_action-at.ensures)
+loop-a-preserved c = going_more c.loop-a.invariant c.requires.count_in_bounds (cut (goal.at.loop-a-preserved c).After-own_nodes-own) c.put_action-at.ensures
 
 pub returns : goal.returns
 returns c =
     let x = c.args in
-    going_end c.loop-a.invariant.1 c.requires.count_in_bounds (actions_none x.file.now x.sizes.now x.row.now x.count c.loop-a.a (omega (arith, c.loop-a-test.false)))
+    going_end c.loop-a.invariant c.requires.count_in_bounds (actions_none x.file.now x.sizes.now x.row.now x.count c.loop-a.a (omega arith))

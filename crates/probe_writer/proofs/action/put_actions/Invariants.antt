@@ -1,4 +1,3 @@
-use Prim.Native.Nat.{◌-◌, ◌≤◌}
 use lib.ListN.{length}
 use Rattle.facts.specs.Fields.{write_each}
 use Rattle.probefile.specs.ProbeFile.{write_step}
@@ -9,7 +8,4 @@ use Rattle.probe_writer.specs.InPlaceLaws.{actions_from}
 use Rattle.probe_writer.proofs.action.put_actions.Given as goal
 
 abbrev pub invariant-loop-a : goal.invariant-loop-a
-invariant-loop-a l = (l.a ≤ l.count) × Going (write_each write_step (flat (action_steps (length l.sizes)) 0 (actions_in l.file l.sizes l.row 0 l.count))) (actions_from l.file l.sizes l.row l.count l.a) l.initial.out l.out l.at
-
-abbrev pub decreases-loop-a : goal.decreases-loop-a
-decreases-loop-a l = l.count - l.a
+invariant-loop-a l = Going (write_each write_step (flat (action_steps (length l.sizes)) 0 (actions_in l.file l.sizes l.row 0 l.count))) (actions_from l.file l.sizes l.row l.count l.a) l.initial.out l.out l.at

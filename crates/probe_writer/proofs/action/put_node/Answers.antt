@@ -1,4 +1,4 @@
--- `probe_writer::action::put_node` meets its contract: what is written and what is left are together all steps of the node. Assumes nothing.
+-- `probe_writer::action::put_node` meets its contract: what is written and what is left are together all steps of the node.
 use Prim.Native.Nat.{ℕ, ◌+◌, ◌≤◌, ◌<◌}
 use mathlib.Core.Path.{refl, subst}
 use mathlib.Core.List.{List}
@@ -43,24 +43,24 @@ cut : (c : goal.Start) (d edge : ℕ) → d < values c → Cut (left c d edge) (
 cut c d edge h = let x = c.args in steps_cut x.file.now (length x.sizes.now) x.a x.i (var c) (values c) d edge h
 
 pub loop-d-init : goal.loop-d-init
-loop-d-init c = let a = c.args in (omega arith, omega arith, steps_start a.file.now (length a.sizes.now) a.a a.i (var (goal.at.loop-d-init c).Start) (values (goal.at.loop-d-init c).Start) (a.node + 1) a.out.now)
+loop-d-init c = let a = c.args in (omega arith, steps_start a.file.now (length a.sizes.now) a.a a.i (var (goal.at.loop-d-init c).Start) (values (goal.at.loop-d-init c).Start) (a.node + 1) a.out.now)
 
 pub put_edge-at-requires-clause-in_bounds : goal.put_edge-at-requires-clause-in_bounds
 put_edge-at-requires-clause-in_bounds c =
     let l = c.loop-d in
-    let room = going_room l.invariant.2 (fits (goal.at.put_edge-at-requires-clause-in_bounds c).Start) (cut (goal.at.put_edge-at-requires-clause-in_bounds c).Start l.d l.edge c.loop-d-test.true) in
+    let room = going_room l.invariant.1 (fits (goal.at.put_edge-at-requires-clause-in_bounds c).Start) (cut (goal.at.put_edge-at-requires-clause-in_bounds c).Start l.d l.edge c.loop-d-test.true) in
     omega (arith, room, step_written (step (goal.at.put_edge-at-requires-clause-in_bounds c).Start l.d l.edge))
 
 pub overflow_add-at : goal.overflow_add-at
 overflow_add-at c =
     let l = c.loop-d in
-    let g = going_more l.invariant.2 (fits (goal.at.overflow_add-at c).Start) (cut (goal.at.overflow_add-at c).Start l.d l.edge c.loop-d-test.true) c.put_edge-at.ensures in
+    let g = going_more l.invariant.1 (fits (goal.at.overflow_add-at c).Start) (cut (goal.at.overflow_add-at c).Start l.d l.edge c.loop-d-test.true) c.put_edge-at.ensures in
     omega (arith, going_inside g (fits (goal.at.overflow_add-at c).Start), going_same g (fits (goal.at.overflow_add-at c).Start))
 
 pub loop-d-preserved : goal.loop-d-preserved
 loop-d-preserved c =
     let l = c.loop-d in
-    (omega (arith, c.loop-d-test.true), omega (arith, l.invariant.1), going_more l.invariant.2 (fits (goal.at.loop-d-preserved c).Start) (cut (goal.at.loop-d-preserved c).Start l.d l.edge c.loop-d-test.true) c.put_edge-at.ensures)
+    (omega (arith, l.invariant.0), going_more l.invariant.1 (fits (goal.at.loop-d-preserved c).Start) (cut (goal.at.loop-d-preserved c).Start l.d l.edge c.loop-d-test.true) c.put_edge-at.ensures)
 
 pub returns : goal.returns
 returns c =
@@ -68,4 +68,4 @@ returns c =
     let l = c.loop-d in
     let n = length a.sizes.now in
     wrote_node a.file.now a.sizes.now a.node n a.a a.i refl refl
-    (going_end l.invariant.2 (fits (goal.at.returns c).Start) (steps_none a.file.now n a.a a.i (var (goal.at.returns c).Start) (values (goal.at.returns c).Start) l.d l.edge (omega (arith, c.loop-d-test.false))))
+    (going_end l.invariant.1 (fits (goal.at.returns c).Start) (steps_none a.file.now n a.a a.i (var (goal.at.returns c).Start) (values (goal.at.returns c).Start) l.d l.edge (omega arith)))

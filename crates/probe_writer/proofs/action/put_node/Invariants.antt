@@ -1,4 +1,4 @@
-use Prim.Native.Nat.{◌+◌, ◌*◌, ◌-◌, ◌≤◌}
+use Prim.Native.Nat.{◌+◌, ◌*◌}
 use mathlib.Core.Path.{◌≡◌}
 use Rattle.facts.specs.Fields.{write_each}
 use Rattle.probefile.specs.ProbeFile.{write_step}
@@ -9,8 +9,5 @@ use Rattle.probe_writer.specs.InPlaceLaws.{steps_from}
 use Rattle.probe_writer.proofs.action.put_node.Given as goal
 
 abbrev pub invariant-loop-d : goal.invariant-loop-d
-invariant-loop-d l = (l.d ≤ l.count) × (l.edge ≡ l.node + 1 + 3 * l.d)
+invariant-loop-d l = (l.edge ≡ l.node + 1 + 3 * l.d)
     × Going (write_each write_step (map_from (edge_step l.n l.a l.i l.v) 0 (edges_in l.file (l.node + 1) l.count))) (steps_from l.file l.n l.a l.i l.v l.count l.d l.edge) l.initial.out l.out l.at
-
-abbrev pub decreases-loop-d : goal.decreases-loop-d
-decreases-loop-d l = l.count - l.d

@@ -1,4 +1,4 @@
--- `probe_writer::head_bytes::put_goal` meets its contract: the bits of semaphore and markers above the goal's own, and zeros behind its values. Assumes nothing.
+-- `probe_writer::head_bytes::put_goal` meets its contract: the bits of semaphore and markers above the goal's own, and zeros behind its values.
 use Prim.Native.Nat.{◌+◌, ◌*◌, ◌≤◌}
 use mathlib.Core.Path.{sym, subst}
 use native.Mathlib.Omega.{arith}

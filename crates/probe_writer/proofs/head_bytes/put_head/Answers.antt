@@ -1,4 +1,4 @@
--- `probe_writer::head_bytes::put_head` meets its contract: sizes, initial values, the_goal and step count, each straight after the last. Assumes nothing.
+-- `probe_writer::head_bytes::put_head` meets its contract: sizes, initial values, the_goal and step count, each straight after the last.
 use Prim.Native.Nat.{ℕ, ◌+◌, ◌≤◌}
 use mathlib.Core.List.{List}
 use native.Mathlib.Omega.{arith}

@@ -1,4 +1,4 @@
--- `probe_writer::head_bytes::put_markers` meets its contract: what is written and what is left are together the sizes of all markers. Assumes nothing.
+-- `probe_writer::head_bytes::put_markers` meets its contract: what is written and what is left are together the sizes of all markers.
 use Prim.Native.Nat.{◌+◌, ◌-◌, ◌≤◌}
 use mathlib.Core.Path.{◌≡◌, ◌∙◌}
 use mathlib.Core.List.{[], ◌∷◌}
@@ -29,24 +29,24 @@ cut : (c : goal.After-byte_at) → let x = c.args in Cut (markers_in x.file.now 
 cut c = let x = c.args in markers_cut x.file.now x.row.now x.actions c.loop-a.a (count_is c) c.loop-a-test.true
 
 pub loop-a-init : goal.loop-a-init
-loop-a-init c = (omega arith, markers_start c.args.file.now c.args.row.now c.args.actions c.args.out.now)
+loop-a-init c = markers_start c.args.file.now c.args.row.now c.args.actions c.args.out.now
 
 pub slice_bounds-put_byte-count : goal.slice_bounds-put_byte-count
-slice_bounds-put_byte-count c = going_inside c.loop-a.invariant.1 (fits (goal.at.slice_bounds-put_byte-count c).Start)
+slice_bounds-put_byte-count c = going_inside c.loop-a.invariant (fits (goal.at.slice_bounds-put_byte-count c).Start)
 
 pub slice_bounds-put_byte-start : goal.slice_bounds-put_byte-start
-slice_bounds-put_byte-start c = going_inside c.loop-a.invariant.1 (fits (goal.at.slice_bounds-put_byte-start c).Start)
+slice_bounds-put_byte-start c = going_inside c.loop-a.invariant (fits (goal.at.slice_bounds-put_byte-start c).Start)
 
-pub overflow_cast-size-in-loop-a : goal.overflow_cast-size-in-loop-a
-overflow_cast-size-in-loop-a c = omega (arith, count_is (goal.at.overflow_cast-size-in-loop-a c).After-byte_at, (weighs (goal.at.overflow_cast-size-in-loop-a c).After-offset_at-incoming).few)
+pub overflow_add-byte_at : goal.overflow_add-byte_at
+overflow_add-byte_at c = omega (arith, count_is (goal.at.overflow_add-byte_at c).After-byte_at, (weighs (goal.at.overflow_add-byte_at c).After-offset_at-incoming).few)
 
 pub put_byte-at-requires : goal.put_byte-at-requires
-put_byte-at-requires c = going_room c.loop-a.invariant.1 (fits (goal.at.put_byte-at-requires c).Start) (cut (goal.at.put_byte-at-requires c).After-byte_at)
+put_byte-at-requires c = going_room c.loop-a.invariant (fits (goal.at.put_byte-at-requires c).Start) (cut (goal.at.put_byte-at-requires c).After-byte_at)
 
 pub overflow_add-at : goal.overflow_add-at
 overflow_add-at c =
-    let g = going_more c.loop-a.invariant.1 (fits (goal.at.overflow_add-at c).Start) (cut (goal.at.overflow_add-at c).After-byte_at) c.put_byte-at.ensures in
+    let g = going_more c.loop-a.invariant (fits (goal.at.overflow_add-at c).Start) (cut (goal.at.overflow_add-at c).After-byte_at) c.put_byte-at.ensures in
     omega (arith, going_inside g (fits (goal.at.overflow_add-at c).Start), going_same g (fits (goal.at.overflow_add-at c).Start))
 
 pub loop-a-preserved : goal.loop-a-preserved
-loop-a-preserved c = (omega (arith, c.loop-a-test.true), going_more c.loop-a.invariant.1 (fits (goal.at.loop-a-preserved c).Start) (cut (goal.at.loop-a-preserved c).After-byte_at) c.put_byte-at.ensures)
+loop-a-preserved c = going_more c.loop-a.invariant (fits (goal.at.loop-a-preserved c).Start) (cut (goal.at.loop-a-preserved c).After-byte_at) c.put_byte-at.ensures

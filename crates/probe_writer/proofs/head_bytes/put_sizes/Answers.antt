@@ -1,4 +1,4 @@
--- `probe_writer::head_bytes::put_sizes` meets its contract: the number of variables, the task's sizes, the semaphore's, the markers', each straight after the last. Assumes nothing.
+-- `probe_writer::head_bytes::put_sizes` meets its contract: the number of variables, the task's sizes, the semaphore's, the markers', each straight after the last.
 use Prim.Native.Nat.{◌+◌, ◌-◌}
 use mathlib.Core.Path.{◌≡◌, ◌∙◌}
 use native.Mathlib.Omega.{arith}

@@ -1,4 +1,4 @@
--- `probe_writer::head_bytes::row_of_bits` meets its contract: the bits from n on are those below the end less those below n. Assumes nothing.
+-- `probe_writer::head_bytes::row_of_bits` meets its contract: the bits from n on are those below the end less those below n.
 use Prim.Native.Nat.{◌+◌, ◌^◌, ◌≤◌}
 use native.Mathlib.Omega.{arith}
 use lib.Pow.{pow_mono}

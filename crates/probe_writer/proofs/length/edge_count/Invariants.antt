@@ -6,7 +6,4 @@ use Rattle.taskfile.specs.PartsInPlace.{nodes_in}
 use Rattle.probe_writer.proofs.length.edge_count.Given as goal
 
 abbrev pub invariant-loop-j : goal.invariant-loop-j
-invariant-loop-j l = (l.j ≤ l.count) × (l.edges ≤ 255 * l.j) × (total edge_count (nodes_in l.file l.sizes l.nodes 0 l.count) ≡ l.edges + total edge_count (nodes_in l.file l.sizes l.nodes (0 + l.j) (l.count - l.j)))
-
-abbrev pub decreases-loop-j : goal.decreases-loop-j
-decreases-loop-j l = l.count - l.j
+invariant-loop-j l = (l.edges ≤ 255 * l.j) × (total edge_count (nodes_in l.file l.sizes l.nodes 0 l.count) ≡ l.edges + total edge_count (nodes_in l.file l.sizes l.nodes (0 + l.j) (l.count - l.j)))

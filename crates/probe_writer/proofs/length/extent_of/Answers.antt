@@ -1,4 +1,4 @@
--- `probe_writer::length::extent_of` meets its contract: what is counted and what is left are together all steps. Assumes nothing.
+-- `probe_writer::length::extent_of` meets its contract: what is counted and what is left are together all steps.
 use Prim.Native.Nat.{◌+◌, ◌≤◌}
 use mathlib.Core.Path.{◌≡◌, ◌∙◌}
 use native.Mathlib.Omega.{arith}
@@ -30,7 +30,7 @@ states-few c =
     (omega (arith, own.0), omega (arith, own.2, c.requires.sizes_len_bound.0))
 
 pub loop-a-init : goal.loop-a-init
-loop-a-init c = let x = c.args in (omega arith, omega arith, omega arith, counted_start (left_start x.file.now x.sizes.now x.row.now x.count))
+loop-a-init c = let x = c.args in (omega arith, omega arith, counted_start (left_start x.file.now x.sizes.now x.row.now x.count))
 
 pub overflow_add-incoming : goal.overflow_add-incoming
 overflow_add-incoming c = omega (arith, (states_are c.args.file.now (stood (goal.at.overflow_add-incoming c).After-offset_at-incoming) (place (goal.at.overflow_add-incoming c).After-offset_at-incoming)).1)
@@ -51,25 +51,24 @@ pub overflow_add-bytes-in-loop-a : goal.overflow_add-bytes-in-loop-a
 overflow_add-bytes-in-loop-a c = omega (arith, (states-few c).1, edges_few c)
 
 pub overflow_add-bytes-in-loop-a-2 : goal.overflow_add-bytes-in-loop-a-2
-overflow_add-bytes-in-loop-a-2 c = omega (arith, c.loop-a.invariant.0, c.loop-a.invariant.2, c.requires.sizes_len_bound.1, (states-few c).1, edges_few c)
+overflow_add-bytes-in-loop-a-2 c = omega (arith, c.loop-a.invariant.1, c.requires.sizes_len_bound.1, (states-few c).1, edges_few c)
 
 pub loop-a-preserved : goal.loop-a-preserved
 loop-a-preserved c =
     let x = c.args in
     let l = c.loop-a in
     let taken = c.loop-a-test.true in (
-      omega (arith, taken),
-      omega (arith, l.invariant.1, edges_few c),
-      omega (arith, l.invariant.2, edges_few c, (states-few c).1),
-      counted_action x.file.now x.sizes.now x.row.now x.count l.a taken (stood (goal.at.loop-a-preserved c).After-offset_at-incoming) c.own_nodes-own.ensures (place (goal.at.loop-a-preserved c).After-offset_at-incoming) c.byte_at.ensures c.edge_count-edges.ensures.0 l.invariant.3,
+      omega (arith, l.invariant.0, edges_few c),
+      omega (arith, l.invariant.1, edges_few c, (states-few c).1),
+      counted_action x.file.now x.sizes.now x.row.now x.count l.a taken (stood (goal.at.loop-a-preserved c).After-offset_at-incoming) c.own_nodes-own.ensures (place (goal.at.loop-a-preserved c).After-offset_at-incoming) c.byte_at.ensures c.edge_count-edges.ensures.0 l.invariant.2,
     )
 
 pub returns-clause-steps_value : goal.returns-clause-steps_value
 returns-clause-steps_value c =
     let x = c.args in
-    (counted_end c.loop-a.invariant.3 (left_none x.file.now x.sizes.now x.row.now x.count c.loop-a.a (omega (arith, c.loop-a-test.false)))).0
+    (counted_end c.loop-a.invariant.2 (left_none x.file.now x.sizes.now x.row.now x.count c.loop-a.a (omega arith))).0
 
 pub returns-clause-bytes_value : goal.returns-clause-bytes_value
 returns-clause-bytes_value c =
     let x = c.args in
-    (counted_end c.loop-a.invariant.3 (left_none x.file.now x.sizes.now x.row.now x.count c.loop-a.a (omega (arith, c.loop-a-test.false)))).1
+    (counted_end c.loop-a.invariant.2 (left_none x.file.now x.sizes.now x.row.now x.count c.loop-a.a (omega arith))).1

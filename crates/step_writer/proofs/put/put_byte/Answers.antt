@@ -1,4 +1,4 @@
--- `step_writer::put::put_byte` meets its contract: one store. Assumes nothing.
+-- `step_writer::put::put_byte` meets its contract: one store.
 use mathlib.Core.Path.{refl}
 use mathlib.Core.List.{[], ◌∷◌}
 use native.Mathlib.Omega.{arith}

@@ -1,4 +1,4 @@
--- `step_writer::put::put_one` meets its contract: a map with one bit, and one value. Assumes nothing.
+-- `step_writer::put::put_one` meets its contract: a map with one bit, and one value.
 use mathlib.Core.Path.{◌≡◌, sym}
 use native.Mathlib.Omega.{arith}
 use lib.ListN.{length, take}

@@ -1,4 +1,4 @@
--- `step_writer::put::put_two` meets its contract: a map with two bits, and two values. Assumes nothing.
+-- `step_writer::put::put_two` meets its contract: a map with two bits, and two values.
 use mathlib.Core.Path.{◌≡◌, sym}
 use native.Mathlib.Omega.{arith}
 use lib.ListN.{length, take}

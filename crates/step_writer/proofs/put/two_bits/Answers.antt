@@ -1,4 +1,4 @@
--- `step_writer::put::two_bits` meets its contract: two bits below 57 fit in 58. Assumes nothing.
+-- `step_writer::put::two_bits` meets its contract: two bits below 57 fit in 58.
 use native.Mathlib.Omega.{arith}
 use Rattle.step_writer.specs.PutLaws.{power_small}
 use Rattle.step_writer.proofs.put.two_bits.Goals as goal

@@ -1,4 +1,4 @@
--- `step_writer::step::put_edge` meets its contract: two facts, one fact and the weight, each straight after the last. Assumes nothing.
+-- `step_writer::step::put_edge` meets its contract: two facts, one fact and the weight, each straight after the last.
 use Prim.Native.Nat.{ℕ, ◌+◌, ◌-◌}
 use mathlib.Core.Path.{◌≡◌, ◌∙◌}
 use native.Mathlib.Omega.{arith}
@@ -9,7 +9,7 @@ use Rattle.facts.specs.WriteLaws.{wrote_inside, wrote_room, wrote_then}
 use Rattle.compilation.specs.Extend.{extend}
 use Rattle.step_writer.specs.PutLaws.{edge_target, edge_weight, wrote_edge}
 use Rattle.step_writer.proofs.step.put_edge.Goals as goal
-use Rattle.step_writer.proofs.step.put_edge.Goals.{After-byte_at-target, Start}
+use Rattle.step_writer.proofs.step.put_edge.Goals.{After-marker-marker}
 
 -- the lengths of precondition and effect
 two_long : (v x w y : ℕ) → length (write_partial (extend (extend empty v x) w y)) ≡ 10
@@ -18,38 +18,38 @@ two_long v x w y = length_written (extend (extend empty v x) w y)
 one_long : (v x : ℕ) → length (write_partial (extend empty v x)) ≡ 9
 one_long v x = length_written (extend empty v x)
 
-two : (c : goal.Start) → length (write_partial (extend (extend empty c.args.v c.args.d) (c.args.n + (1 + c.args.a)) c.args.i)) ≡ 10
-two c = two_long c.args.v c.args.d (c.args.n + (1 + c.args.a)) c.args.i
+two : (c : goal.After-marker-marker) → length (write_partial (extend (extend empty c.args.v c.args.d) c.marker-marker.result c.args.i)) ≡ 10
+two c = two_long c.args.v c.args.d c.marker-marker.result c.args.i
 
-one : (c : goal.After-byte_at-target) → length (write_partial (extend empty (c.args.n + (1 + c.args.a)) c.byte_at-target.result)) ≡ 9
-one c = one_long (c.args.n + (1 + c.args.a)) c.byte_at-target.result
+one : (c : goal.After-marker-marker) → length (write_partial (extend empty c.marker-marker.result c.byte_at-target.result)) ≡ 9
+one c = one_long c.marker-marker.result c.byte_at-target.result
 
 pub slice_bounds-put_one-count : goal.slice_bounds-put_one-count
-slice_bounds-put_one-count c = wrote_inside c.put_two-pre.ensures (omega (arith, two (goal.at.slice_bounds-put_one-count c).Start, c.requires.in_bounds))
+slice_bounds-put_one-count c = wrote_inside c.put_two-pre.ensures (omega (arith, two (goal.at.slice_bounds-put_one-count c).After-marker-marker, c.requires.in_bounds))
 
 pub slice_bounds-put_one-start : goal.slice_bounds-put_one-start
-slice_bounds-put_one-start c = wrote_inside c.put_two-pre.ensures (omega (arith, two (goal.at.slice_bounds-put_one-start c).Start, c.requires.in_bounds))
+slice_bounds-put_one-start c = wrote_inside c.put_two-pre.ensures (omega (arith, two (goal.at.slice_bounds-put_one-start c).After-marker-marker, c.requires.in_bounds))
 
 pub put_one-requires : goal.put_one-requires
-put_one-requires c = (c.requires.v_lt_max_variables.1, wrote_room c.put_two-pre.ensures (omega (arith, two (goal.at.put_one-requires c).Start, c.requires.in_bounds)))
+put_one-requires c = (omega (arith, c.marker-marker.ensures, c.args.marks.inside), wrote_room c.put_two-pre.ensures (omega (arith, two (goal.at.put_one-requires c).After-marker-marker, c.requires.in_bounds)))
 
 pub overflow_add-eff : goal.overflow_add-eff
-overflow_add-eff c = omega (arith, c.requires.in_bounds, c.put_two-pre.ensures.count, c.put_one.ensures.count, two (goal.at.overflow_add-eff c).Start, one (goal.at.overflow_add-eff c).After-byte_at-target)
+overflow_add-eff c = omega (arith, c.requires.in_bounds, c.put_two-pre.ensures.count, c.put_one.ensures.count, two (goal.at.overflow_add-eff c).After-marker-marker, one (goal.at.overflow_add-eff c).After-marker-marker)
 
 pub slice_bounds-put_word-count : goal.slice_bounds-put_word-count
-slice_bounds-put_word-count c = wrote_inside (wrote_then c.put_two-pre.ensures c.put_one.ensures) (simp length-append (omega (arith, two (goal.at.slice_bounds-put_word-count c).Start, one (goal.at.slice_bounds-put_word-count c).After-byte_at-target, c.requires.in_bounds)))
+slice_bounds-put_word-count c = wrote_inside (wrote_then c.put_two-pre.ensures c.put_one.ensures) (simp length-append (omega (arith, two (goal.at.slice_bounds-put_word-count c).After-marker-marker, one (goal.at.slice_bounds-put_word-count c).After-marker-marker, c.requires.in_bounds)))
 
 pub slice_bounds-put_word-start : goal.slice_bounds-put_word-start
-slice_bounds-put_word-start c = wrote_inside (wrote_then c.put_two-pre.ensures c.put_one.ensures) (simp length-append (omega (arith, two (goal.at.slice_bounds-put_word-start c).Start, one (goal.at.slice_bounds-put_word-start c).After-byte_at-target, c.requires.in_bounds)))
+slice_bounds-put_word-start c = wrote_inside (wrote_then c.put_two-pre.ensures c.put_one.ensures) (simp length-append (omega (arith, two (goal.at.slice_bounds-put_word-start c).After-marker-marker, one (goal.at.slice_bounds-put_word-start c).After-marker-marker, c.requires.in_bounds)))
 
 pub put_word-requires : goal.put_word-requires
-put_word-requires c = wrote_room (wrote_then c.put_two-pre.ensures c.put_one.ensures) (simp length-append (omega (arith, two (goal.at.put_word-requires c).Start, one (goal.at.put_word-requires c).After-byte_at-target, c.requires.in_bounds)))
+put_word-requires c = wrote_room (wrote_then c.put_two-pre.ensures c.put_one.ensures) (simp length-append (omega (arith, two (goal.at.put_word-requires c).After-marker-marker, one (goal.at.put_word-requires c).After-marker-marker, c.requires.in_bounds)))
 
 pub overflow_add-result : goal.overflow_add-result
 overflow_add-result c =
     let a = c.put_two-pre in
     let e = c.put_one in
-    omega (arith, c.requires.in_bounds, a.ensures.count, e.ensures.count, c.put_word.ensures.count, two (goal.at.overflow_add-result c).Start, one (goal.at.overflow_add-result c).After-byte_at-target)
+    omega (arith, c.requires.in_bounds, a.ensures.count, e.ensures.count, c.put_word.ensures.count, two (goal.at.overflow_add-result c).After-marker-marker, one (goal.at.overflow_add-result c).After-marker-marker)
 
 pub returns : goal.returns
 returns c =
@@ -57,5 +57,5 @@ returns c =
     let f = a.file.now in
     let at = a.at in
     let k = at + 3 - at in
-    wrote_edge f at a.n a.a a.i a.v a.d (c.byte_at-target.ensures ∙ edge_target f at k (omega arith)) (c.word_at-weight.ensures.0 ∙ edge_weight f at k (omega arith) c.requires.v_lt_max_variables.2)
+    wrote_edge f at a.marks.n a.marks.a a.i a.v a.d c.marker-marker.ensures (c.byte_at-target.ensures ∙ edge_target f at k (omega arith)) (c.word_at-weight.ensures.0 ∙ edge_weight f at k (omega arith) c.requires.v_lt_max_variables.1)
     (wrote_then (wrote_then c.put_two-pre.ensures c.put_one.ensures) c.put_word.ensures)

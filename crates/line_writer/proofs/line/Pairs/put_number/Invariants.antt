@@ -1,6 +1,6 @@
 use Prim.Native.Nat.{◌≤◌}
 use Rattle.line_writer.specs.ColumnLaws.{Putting}
-use Rattle.line_writer.proofs.line.put_number.Given as goal
+use Rattle.line_writer.proofs.line.Pairs.put_number.Given as goal
 
 abbrev pub invariant-loop-rest : goal.invariant-loop-rest
 invariant-loop-rest l = (l.at ≤ l.end) × Putting l.n l.end l.initial.line l.line l.at l.rest
