@@ -1,13 +1,11 @@
 -- The arguments of a command, and what is wrong with them in words.
-use Rattle.std.specs.Prelude.{ℕ, Bool, true, false, not, List, ◌++◌, eqb, ltb}
+use Rattle.std.specs.Prelude.{ℕ, Result, Ok, Err, Bool, true, false, not, List, ◌++◌, eqb, ltb}
 use Rattle.text.specs.Append.{bytes}
 use Rattle.arguments.specs.declared.Name.{Name}
 use Rattle.arguments.specs.declared.Name.TheVariants.{File, Task, Probe, Action, State, Sets, Plan, List as ListName, Sum}
 use Rattle.arguments.specs.declared.Shape.{Shape}
-use Rattle.arguments.specs.declared.Fit.{Fit}
-use Rattle.arguments.specs.declared.Fit.TheVariants.{Fits, Missing, Many}
 use Rattle.arguments.specs.declared.Wrong.{Wrong}
-use Rattle.arguments.specs.declared.Wrong.TheVariants.{Option, Missing as NotGiven, Long, Many as TooMany, Twice}
+use Rattle.arguments.specs.declared.Wrong.TheVariants.{Option, Missing, Long, Many, Twice}
 
 -- ---- how many there have to be
 
@@ -15,9 +13,9 @@ use Rattle.arguments.specs.declared.Wrong.TheVariants.{Option, Missing as NotGiv
 abbrev pub name_at : Shape → ℕ → Name
 name_at s k = elim (eqb k 0) [ true ↦ s.first | false ↦ elim (eqb k 1) [ true ↦ s.second | false ↦ s.third ] ]
 
--- whether so many arguments are as many as there have to be, and if not which is missing
-abbrev pub fit_of : Shape → ℕ → Fit
-fit_of s n = elim (ltb n s.least) [ true ↦ Missing (name_at s n) | false ↦ elim (ltb s.most n) [ true ↦ Many | false ↦ Fits ] ]
+-- whether so many arguments are as many as there have to be; if not, which is missing, or that there are too many
+abbrev pub fit_of : Shape → ℕ → Result (Unit {0}) Wrong
+fit_of s n = elim (ltb n s.least) [ true ↦ Err (Missing (name_at s n)) | false ↦ elim (ltb s.most n) [ true ↦ Err Many | false ↦ Ok tt ] ]
 
 -- ---- in words
 
@@ -36,9 +34,9 @@ name_text Sum = bytes "SUM"
 -- what is wrong, with the word that is
 abbrev pub what_text : List ℕ → Wrong → List ℕ
 what_text word Option = bytes "there is no option " ++ word
-what_text word (NotGiven name) = name_text name ++ bytes " is missing"
+what_text word (Missing name) = name_text name ++ bytes " is missing"
 what_text word (Long name) = name_text name ++ bytes " is too long"
-what_text word TooMany = word ++ bytes " is one argument too many"
+what_text word Many = word ++ bytes " is one argument too many"
 what_text word (Twice name other) = name_text name ++ (bytes " and " ++ (name_text other ++ bytes " are both standard input"))
 
 -- the line that says so, and where help is; `command` is the command's word

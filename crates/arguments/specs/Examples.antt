@@ -1,10 +1,9 @@
 -- Command lines of `cost TASK ACTION STATE`, where the state may be left out, what is said of wrong ones, and words by number.
-use Rattle.std.specs.Prelude.{◌≡◌, refl, true, false, ℕ, List, []}
+use Rattle.std.specs.Prelude.{◌≡◌, refl, true, false, Ok, Err, ℕ, List, []}
 use Rattle.text.specs.Append.{bytes}
 use Rattle.arguments.specs.declared.Name.TheVariants.{Task, Action, State}
 use Rattle.arguments.specs.declared.Shape.{Shape}
-use Rattle.arguments.specs.declared.Fit.TheVariants.{Fits, Missing, Many}
-use Rattle.arguments.specs.declared.Wrong.TheVariants.{Option, Missing as NotGiven, Long, Many as TooMany, Twice}
+use Rattle.arguments.specs.declared.Wrong.TheVariants.{Option, Missing, Long, Many, Twice}
 use Rattle.arguments.specs.Arguments.{fit_of, wrong_text, hint_text}
 use Rattle.arguments.specs.Table.{number_in}
 
@@ -12,29 +11,29 @@ abbrev cost : Shape
 cost = record { first = Task; second = Action; third = State; least = 2; most = 3 }
 
 -- how many there are
-of_none : fit_of cost 0 ≡ Missing Task
+of_none : fit_of cost 0 ≡ Err (Missing Task)
 of_none = refl
 
-of_one : fit_of cost 1 ≡ Missing Action
+of_one : fit_of cost 1 ≡ Err (Missing Action)
 of_one = refl
 
-of_two : fit_of cost 2 ≡ Fits
+of_two : fit_of cost 2 ≡ Ok tt
 of_two = refl
 
-of_three : fit_of cost 3 ≡ Fits
+of_three : fit_of cost 3 ≡ Ok tt
 of_three = refl
 
-of_four : fit_of cost 4 ≡ Many
+of_four : fit_of cost 4 ≡ Err Many
 of_four = refl
 
 -- what is said
-missing : wrong_text (bytes "cost") [] (NotGiven Action) ≡ bytes "jafrelin: ACTION is missing; see jafrelin cost --help\n"
+missing : wrong_text (bytes "cost") [] (Missing Action) ≡ bytes "jafrelin: ACTION is missing; see jafrelin cost --help\n"
 missing = refl
 
 long : wrong_text (bytes "cost") [] (Long Task) ≡ bytes "jafrelin: TASK is too long; see jafrelin cost --help\n"
 long = refl
 
-many : wrong_text (bytes "cost") (bytes "more") TooMany ≡ bytes "jafrelin: more is one argument too many; see jafrelin cost --help\n"
+many : wrong_text (bytes "cost") (bytes "more") Many ≡ bytes "jafrelin: more is one argument too many; see jafrelin cost --help\n"
 many = refl
 
 option : wrong_text (bytes "cost") (bytes "--quick") Option ≡ bytes "jafrelin: there is no option --quick; see jafrelin cost --help\n"

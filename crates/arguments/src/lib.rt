@@ -10,7 +10,7 @@ ghost use Rattle.arguments.specs.Arguments.{name_at, fit_of};
 pub use crate::words::{put_hint, put_wrong};
 
 // What an argument is called.
-#[derive(Clone, Copy)]
+#[derive(Clone, Copy, Debug, PartialEq, Eq)]
 pub enum Name {
     File,
     Task,
@@ -24,7 +24,7 @@ pub enum Name {
 }
 
 // The arguments of a command: what the first, the second and the third are called, and how many there are at least and at most.
-#[derive(Clone, Copy)]
+#[derive(Clone, Copy, Debug, PartialEq, Eq)]
 pub struct Shape {
     pub first: Name,
     pub second: Name,
@@ -33,16 +33,8 @@ pub struct Shape {
     pub most: usize,
 }
 
-// Whether there are as many arguments as there have to be, and if not which is missing.
-#[derive(Drop)]
-pub enum Fit {
-    Fits,
-    Missing(Name),
-    Many,
-}
-
 // What is wrong with a command line: an option that there is not, an argument that is missing, longer than a name can be or one too many, two that are both standard input.
-#[derive(Drop)]
+#[derive(Clone, Copy, Debug, PartialEq, Eq)]
 pub enum Wrong {
     Option,
     Missing(Name),
@@ -55,24 +47,22 @@ pub enum Wrong {
 pub fn name_at(shape: Shape, k: usize) -> Name
     ensures { result ≡ name_at shape k }
 {
-    if k == 0 {
-        return shape.first;
+    match k {
+        0 => shape.first,
+        1 => shape.second,
+        _ => shape.third,
     }
-    if k == 1 {
-        return shape.second;
-    }
-    shape.third
 }
 
-// Whether so many arguments are as many as there have to be.
-pub fn fit_of(shape: Shape, count: usize) -> Fit
+// Whether so many arguments are as many as there have to be; if not, which is missing, or that there are too many.
+pub fn fit_of(shape: Shape, count: usize) -> Result<(), Wrong>
     ensures { result ≡ fit_of shape count }
 {
     if count < shape.least {
-        return Fit::Missing(name_at(shape, count));
+        return Err(Wrong::Missing(name_at(shape, count)));
     }
     if shape.most < count {
-        return Fit::Many;
+        return Err(Wrong::Many);
     }
-    Fit::Fits
+    Ok(())
 }

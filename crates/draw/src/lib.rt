@@ -3,72 +3,43 @@
 
 mod dot;
 
-ghost use Rattle.std.specs.Prelude.{◌≡◌, ◌+◌, ◌≤◌, length};
-ghost use Rattle.facts.specs.Read.{accepted};
+ghost use Rattle.std.specs.Prelude.{◌≡◌, length};
+ghost use Rattle.facts.specs.Answers.{answer};
 ghost use Rattle.facts.specs.Write.{length_in, written_in};
-ghost use Rattle.text.specs.Append.{largest};
 ghost use Rattle.words.specs.DescribeFile.{drawn, drawn_action};
-ghost use Rattle.words.specs.Rows.{drawing};
-ghost use Rattle.words.specs.Answers.{described_answer};
 
+use dot::put_drawing;
 use facts::Refusal;
 use index::bytes_of;
-use taskfile::{Counted, Task};
-use words::Described;
+use taskfile::Task;
 
 // All cost diagrams of a task for Graphviz: the task file's refusals, then 7 with the length needed; a refusal changes no byte.
-pub fn draw(file: &[u8], out: &mut [u8]) -> Described
-    ensures result_value { described_answer result ≡ length_in (length out.old) (drawn file.now) }
+pub fn draw(file: &[u8], out: &mut [u8]) -> Result<usize, Refusal>
+    ensures result_value { answer result ≡ length_in (length out.old) (drawn file.now) }
     ensures out_after { out.new ≡ written_in out.old (drawn file.now) }
 {
     let mut row = [0; Task::ROW];
-    match index::index_in(file, &mut row) {
-        Counted::Refused(why) => Described::Refused(why),
-        Counted::Actions(variables, actions) => {
-            let bytes = bytes_of(file, &Task::BLANK);
-            draw_in(bytes, variables, &row, 0, actions, out)
-        }
-    }
+    let (variables, actions) = index::index_in(file, &mut row)?;
+    let bytes = bytes_of(file, &Task::BLANK);
+    words::write(
+        out,
+        |text| put_drawing(text, bytes, variables, &row, 0, actions),
+    )
 }
 
 // The cost diagram of an action: the task file's refusals, then 11 for the number, then 7 with the length needed; a refusal changes no byte.
-pub fn draw_action(file: &[u8], action: usize, out: &mut [u8]) -> Described
-    ensures result_value { described_answer result ≡ length_in (length out.old) (drawn_action file.now action) }
+pub fn draw_action(file: &[u8], action: usize, out: &mut [u8]) -> Result<usize, Refusal>
+    ensures result_value { answer result ≡ length_in (length out.old) (drawn_action file.now action) }
     ensures out_after { out.new ≡ written_in out.old (drawn_action file.now action) }
 {
     let mut row = [0; Task::ROW];
-    match index::index_in(file, &mut row) {
-        Counted::Refused(why) => Described::Refused(why),
-        Counted::Actions(variables, actions) => {
-            if actions <= action {
-                return Described::Refused(Refusal::Missing(0));
-            }
-            let bytes = bytes_of(file, &Task::BLANK);
-            draw_in(bytes, variables, &row, action, action + 1, out)
-        }
+    let (variables, actions) = index::index_in(file, &mut row)?;
+    if actions <= action {
+        return Err(Refusal::Missing(0));
     }
-}
-
-// All actions of an accepted file from number `from` up to `end`, in one drawing, which is counted first.
-fn draw_in(
-    file: &[u8],
-    variables: usize,
-    row: &[usize],
-    from: usize,
-    end: usize,
-    out: &mut [u8],
-) -> Described
-    requires variables_in_bounds { 1 + variables ≤ length file.now }
-    requires end_len_bound { length (drawing file.now variables row.now from end) ≤ largest }
-    ensures result_value { described_answer result ≡ length_in (length out.old) (accepted (drawing file.now variables row.now from end)) }
-    ensures out_after { out.new ≡ written_in out.old (accepted (drawing file.now variables row.now from end)) }
-{
-    let mut none = [0; 0];
-    let needed = dot::put_drawing(&mut none, file, variables, row, from, end);
-    let short = out.len() < needed;
-    if short {
-        return Described::Refused(Refusal::Short(needed));
-    }
-    let written = dot::put_drawing(out, file, variables, row, from, end);
-    Described::Length(written)
+    let bytes = bytes_of(file, &Task::BLANK);
+    words::write(
+        out,
+        |text| put_drawing(text, bytes, variables, &row, action, action + 1),
+    )
 }

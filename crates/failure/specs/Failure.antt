@@ -1,7 +1,5 @@
 -- Why a list is no plan: the entry that does not apply, or the goal at the end, with each fact that fails and the value that is there. On tasks and probe files alike, as `run_from` (crate `facts`) runs both.
-use Rattle.std.specs.Prelude.{ℕ, zero, suc, Bool, true, false, List, [], ◌∷◌, ◌++◌, eqb, ltb, length, get_or}
-use Rattle.std.proofs.Math.Option.{none, some}
-use Rattle.std.proofs.Math.ListN.{get_elem?}
+use Rattle.std.specs.Prelude.{ℕ, zero, suc, Bool, true, false, List, [], ◌∷◌, ◌++◌, eqb, ltb, length, get_or, None, Some, slice_get}
 use Rattle.facts.specs.Read.{Read, accepted, check, with_value, ◌>>=◌}
 use Rattle.facts.specs.Partial.{Partial, holds, apply, empty}
 use Rattle.facts.specs.Run.{at_most}
@@ -72,16 +70,16 @@ failure label count pre eff goal list s = with_value (halt_text label goal) (hal
 
 -- precondition and effect of an action by number, and of a step
 abbrev pub action_pre : List Action → ℕ → Partial
-action_pre actions a = elim (get_elem? actions a) [ none ↦ empty | some x ↦ x.pre ]
+action_pre actions a = elim (slice_get actions a) [ None ↦ empty | Some x ↦ x.pre ]
 
 abbrev pub action_eff : List Action → ℕ → Partial
-action_eff actions a = elim (get_elem? actions a) [ none ↦ empty | some x ↦ x.eff ]
+action_eff actions a = elim (slice_get actions a) [ None ↦ empty | Some x ↦ x.eff ]
 
 abbrev pub step_pre : List Step → ℕ → Partial
-step_pre steps r = elim (get_elem? steps r) [ none ↦ empty | some st ↦ st.pre ]
+step_pre steps r = elim (slice_get steps r) [ None ↦ empty | Some st ↦ st.pre ]
 
 abbrev pub step_eff : List Step → ℕ → Partial
-step_eff steps r = elim (get_elem? steps r) [ none ↦ empty | some st ↦ st.eff ]
+step_eff steps r = elim (slice_get steps r) [ None ↦ empty | Some st ↦ st.eff ]
 
 -- of a list of actions: 1 to 6 for the file, 8 for the list, 11 for an entry before the first that does not apply
 unfoldable pub task_failure : List ℕ → List ℕ → Read (List ℕ)

@@ -1,13 +1,12 @@
 -- The same over the bytes of an accepted file, whose actions or steps begin at these offsets.
-use Rattle.std.specs.Prelude.{ℕ, ◌≤◌, ◌≡◌, true, false, List, length, get_or}
-use Rattle.facts.specs.Read.{Read, accepted, refused}
+use Rattle.std.specs.Prelude.{ℕ, ◌≤◌, ◌≡◌, true, false, List, length, get_or, Result, Option, Some, None}
+use Rattle.facts.specs.declared.Refusal.{Refusal}
+use Rattle.facts.specs.Read.{Read, accepted, with_value}
+use Rattle.facts.specs.Answers.{answer}
 use Rattle.facts.specs.Partial.{Partial, holds, apply, partial_at, past_partial}
 use Rattle.text.specs.Append.{largest}
 use Rattle.failure.specs.Failure.{Halt, stopped, ended, halt_from, failure}
 use Rattle.failure.specs.declared.Stop.{Stop}
-use Rattle.failure.specs.declared.Stop.TheVariants.{Entry, End}
-use Rattle.failure.specs.declared.Halted.{Halted}
-use Rattle.failure.specs.declared.Halted.TheVariants.{At, Missing}
 
 -- the text that is answered has a length
 pub record Brief (answer : Read (List ℕ)) : Type 0 where
@@ -35,10 +34,9 @@ module _ (f : List ℕ) where
   failure_in label offsets goal list s = failure label (length offsets) (pre_at offsets) (eff_at offsets) (partial_at f goal) list s
 
   -- what the code's answers mean, in the state s
-  abbrev pub stop_answer : Stop → List ℕ → Halt
-  stop_answer (Entry i a place) s = stopped i a (partial_at f place) s
-  stop_answer End s = ended s
+  abbrev pub stop_answer : Option Stop → List ℕ → Halt
+  stop_answer (Some stop) s = stopped stop.entry stop.number (partial_at f stop.place) s
+  stop_answer None s = ended s
 
-  abbrev pub halted_answer : Halted → List ℕ → Read Halt
-  halted_answer (At stop) s = accepted (stop_answer stop s)
-  halted_answer (Missing i) s = refused 11 i
+  abbrev pub halted_answer : Result (Option Stop) Refusal → List ℕ → Read Halt
+  halted_answer result s = with_value (λ stop. stop_answer stop s) (answer result)

@@ -1,10 +1,8 @@
 -- What the text is worth: where a list is refused by 9, the run comes to its end at that entry, whose precondition does not hold there; by 10, at the end, where the goal does not hold; and of a plan nothing is said.
-use Rattle.std.specs.Prelude.{ℕ, zero, suc, ◌+◌, ◌%◌, ◌<◌, ◌≡◌, Bool, true, false, ◌&&◌, ltb, length, get_or}
+use Rattle.std.specs.Prelude.{ℕ, zero, suc, ◌+◌, ◌%◌, ◌<◌, ◌≡◌, Bool, true, false, ◌&&◌, ltb, length, get_or, None, Some, slice_get}
 use Rattle.std.proofs.Math.Path.{refl}
 use Rattle.std.proofs.Common.{sym, ap, subst, ◌∙◌, arith}
-use Rattle.std.proofs.Math.Option.{none, some}
 use mathlib.Core.List.{List, [], ◌∷◌, ◌++◌}
-use Rattle.std.proofs.Math.ListN.{get_elem?}
 use borrow.Author.Tests.{eq-eqb, ltb-true}
 use Rattle.facts.specs.Read.{Read, accepted, refused, check, ◌>>=◌}
 use Rattle.facts.specs.ListLaws.{look}
@@ -59,13 +57,13 @@ module _ (count : ℕ) (move : ℕ → List ℕ → Move) (pre eff : ℕ → Par
 pub task_ends : (t : Task) (list : List ℕ) → Ends t.goal (task_sum t list) (halt_from (length t.actions) (action_pre t.actions) (action_eff t.actions) 0 list t.init)
 unfolding task_sum action_move
 task_ends t list =
-    run_ends (length t.actions) (action_move t.actions) (action_pre t.actions) (action_eff t.actions) (λ a s. elim (get_elem? t.actions a) [ none ↦ 0 | some x ↦ cost x s ]) t.goal
+    run_ends (length t.actions) (action_move t.actions) (action_pre t.actions) (action_eff t.actions) (λ a s. elim (slice_get t.actions a) [ None ↦ 0 | Some x ↦ cost x s ]) t.goal
     (λ a s l. let x = at_some t.actions a l in rw (look x.1, action_move, action_pre, action_eff)) list t.init 0 0
 
 pub probe_ends : (p : Probe) (list : List ℕ) → Ends p.goal (probe_sum p list) (halt_from (length p.steps) (step_pre p.steps) (step_eff p.steps) 0 list p.init)
 unfolding probe_sum step_move
 probe_ends p list =
-    run_ends (length p.steps) (step_move p.steps) (step_pre p.steps) (step_eff p.steps) (λ r s. elim (get_elem? p.steps r) [ none ↦ 0 | some st ↦ st.cost ]) p.goal
+    run_ends (length p.steps) (step_move p.steps) (step_pre p.steps) (step_eff p.steps) (λ r s. elim (slice_get p.steps r) [ None ↦ 0 | Some st ↦ st.cost ]) p.goal
     (λ r s l. let x = at_some p.steps r l in rw (look x.1, step_move, step_pre, step_eff)) list p.init 0 0
 
 -- ---- some fact is named
@@ -94,9 +92,9 @@ named s (x ∷ rest) [] v p same i h g e = absurd i
 named s (x ∷ rest) (d ∷ sizes) v p same i h g e =
     let first = failed_text (get_or s v 0) v (p.map % 2) p.values in
     let others = bits_text (λ v. failed_text (get_or s v 0) v) (length rest) (suc v) (above p) in
-    let none = both_empty first others e in
+    let None = both_empty first others e in
     let here : get_or s v 0 ≡ x = same 0 v (omega arith) in
-    go (agrees (p.map % 2) p.values x) refl (subst (λ (y : ℕ). failed_text y v (p.map % 2) p.values ≡ []) here none.0) (λ f. named s rest sizes (suc v) (above p) (λ k q m. same (suc k) q (omega arith)) i.1 h.1 f none.1) g
+    go (agrees (p.map % 2) p.values x) refl (subst (λ (y : ℕ). failed_text y v (p.map % 2) p.values ≡ []) here None.0) (λ f. named s rest sizes (suc v) (above p) (λ k q m. same (suc k) q (omega arith)) i.1 h.1 f None.1) g
   where
     go : (t : Bool) → agrees (p.map % 2) p.values x ≡ t → failed_text x v (p.map % 2) p.values ≡ [] → (holds (above p) rest ≡ false → ⊥) → (t && holds (above p) rest) ≡ false → ⊥
     go true t e k g = k g

@@ -3,8 +3,8 @@ ghost use Rattle.std.specs.Prelude.{◌≡◌};
 ghost use Rattle.facts.specs.Partial.{holds, partial_at, past_partial};
 ghost use Rattle.failure.specs.InPlace.{advanced, halt_in, halted_answer};
 
-use crate::{Halted, Stop};
-use facts::Held;
+use crate::Stop;
+use facts::Refusal;
 use partial::{apply_at, held_at};
 
 // Whether the action or step at an offset applies in a state, which then has its effect.
@@ -13,30 +13,37 @@ fn advance(file: &[u8], place: usize, state: &mut [u8]) -> bool
     ensures state_after { state.new ≡ advanced (partial_at file.now place) (partial_at file.now (past_partial file.now place)) state.old }
 {
     match held_at(file, place, state) {
-        Held::Not => false,
-        Held::Ends(effect) => {
+        None => false,
+        Some(effect) => {
             apply_at(file, effect, state);
             true
         }
     }
 }
 
-// Runs a list from a state, where `offsets` has the offset of each action or step, to its end.
-pub fn halt(file: &[u8], offsets: &[usize], list: &[u16], state: &mut [u8]) -> Halted
+// Runs a list from a state, where `offsets` has the offset of each action or step, to its end: the entry that stops it, none past the last, or 11 at the index of a number that there is not.
+pub fn halt(
+    file: &[u8],
+    offsets: &[usize],
+    list: &[u16],
+    state: &mut [u8],
+) -> Result<Option<Stop>, Refusal>
     ensures { halted_answer file.now result state.new ≡ halt_in file.now offsets.now 0 list.now state.old }
 {
-    let mut i: usize = 0;
-    while i < list.len() {
+    for i in 0..list.len() {
         let number = list[i] as usize;
         if offsets.len() <= number {
-            return Halted::Missing(i);
+            return Err(Refusal::Missing(i));
         }
         let place = offsets[number];
-        if advance(file, place, state) {
-            i += 1;
-            continue;
+        let applies = advance(file, place, state);
+        if !applies {
+            return Ok(Some(Stop {
+                entry: i,
+                number,
+                place,
+            }));
         }
-        return Halted::At(Stop::Entry(i, number, place));
     }
-    Halted::At(Stop::End)
+    Ok(None)
 }

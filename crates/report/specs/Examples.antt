@@ -50,8 +50,8 @@ estimates = refl
 
 -- of a text and of an argument, by name
 faults : Said (λ (c : String × Fault). fault_text (bytes c.0) c.1) (
-    (("plan.txt", StrayEntry 3 7), "plan.txt:3: entry 7, counted from 0, is no number\n")
-    ∷ (("standard input", Large 1 0 65535), "standard input:1: entry 0, counted from 0, is above 65535\n")
+    (("plan.txt", StrayEntry (record { line = 3; entry = 7 })), "plan.txt:3: entry 7, counted from 0, is no number\n")
+    ∷ (("standard input", Large (record { line = 1; entry = 0 }) 65535), "standard input:1: entry 0, counted from 0, is above 65535\n")
     ∷ (("plan.txt", LongText 131071), "plan.txt: the text has more than 131071 bytes\n")
     ∷ (("ACTION", NotOne), "ACTION is not one number\n")
     ∷ (("ACTION", Above 4294967295), "ACTION is above 4294967295\n")

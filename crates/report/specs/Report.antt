@@ -7,6 +7,7 @@ use Rattle.facts.specs.declared.Refusal.TheVariants.{Ends, Trailing, Range, Outs
 use Rattle.estimate.specs.declared.Est.{Est}
 use Rattle.estimate.specs.declared.Est.TheVariants.{Never, Over, Exact}
 use Rattle.probefile.specs.Probe.{max_list}
+use Rattle.text.specs.declared.Place.{Place}
 use Rattle.text.specs.Text.{decimal}
 use Rattle.text.specs.Append.{bytes}
 use Rattle.report.specs.declared.Subject.{Subject}
@@ -42,13 +43,13 @@ estimate_text Over = bytes "estimate over\n"
 estimate_text (Exact n) = around "estimate " n "\n"
 
 -- the line and the entry of a text, up to what is wrong with it
-abbrev pub place_text : ℕ → ℕ → List ℕ
-place_text line entry = around ":" line ": entry " ++ around "" entry ", counted from 0, is "
+abbrev pub place_text : Place → List ℕ
+place_text at = around ":" at.line ": entry " ++ around "" at.entry ", counted from 0, is "
 
 -- what is wrong with a text or an argument, after its name
 abbrev pub why_text : Fault → List ℕ
-why_text (StrayEntry line entry) = place_text line entry ++ bytes "no number\n"
-why_text (Large line entry most) = place_text line entry ++ around "above " most "\n"
+why_text (StrayEntry at) = place_text at ++ bytes "no number\n"
+why_text (Large at most) = place_text at ++ around "above " most "\n"
 why_text (LongText most) = around ": the text has more than " most " bytes\n"
 why_text NotOne = bytes " is not one number\n"
 why_text (Above most) = around " is above " most "\n"

@@ -4,114 +4,71 @@
 pub mod place;
 pub mod read;
 
-ghost use Rattle.std.specs.Prelude.{◌≡◌, ◌-◌, ◌<◌, length, drop};
-ghost use Rattle.text.specs.Text.{blank, digit, between, within, numbers_from, count_of};
+ghost use Rattle.std.specs.Prelude.{◌≡◌, ◌<◌, length, drop};
+ghost use Rattle.text.specs.Text.{blank, between, within, numbers_from, count_of};
 ghost use Rattle.text.specs.Answers.{found_answer, token_answer, Ahead};
 
-use text::{Found, Token};
+use text::Flaw;
 
 // How many numbers a text has.
-pub fn scan(text: &[u8], most: u32) -> Found
+pub fn scan(text: &[u8], most: u32) -> Result<usize, Flaw>
     ensures { found_answer result ≡ count_of most text.now }
 {
     let mut at: usize = 0;
     let mut count: usize = 0;
-    while at < text.len() {
-        match next_number(text, at, most) {
-            Token::Number(_, end) => {
-                at = end;
-            }
-            Token::End => {
-                return Found::Count(count);
-            }
-            Token::Stray(p) => {
-                return Found::Stray(p);
-            }
-            Token::Large(p) => {
-                return Found::Large(p);
-            }
-        }
+    while let Some((_, end)) = next_number(text, at, most)? {
+        at = end;
         count += 1;
     }
-    Found::Count(count)
+    Ok(count)
 }
 
-// The next number from an offset on.
-pub fn next_number(text: &[u8], from: usize, most: u32) -> Token
+// The next number from an offset on, and the offset past it.
+pub fn next_number(text: &[u8], from: usize, most: u32) -> Result<Option<(u32, usize)>, Flaw>
     ensures text_value { numbers_from most between from (drop from text.now) ≡ token_answer most text.now result }
     ensures ahead { Ahead most text.now from result }
 {
-    let mut at = from;
-    while at < text.len() {
+    for at in from..text.len() {
         let b = text[at];
-        if is_digit(b) {
+        if b.is_ascii_digit() {
             return number_from(text, at, most);
         }
         if !is_blank(b) {
-            return Token::Stray(at);
+            return Err(Flaw::Stray(at));
         }
-        at += 1;
     }
-    Token::End
+    Ok(None)
 }
 
 // The number whose first digit is at an offset, up to a blank or the end.
-fn number_from(text: &[u8], from: usize, most: u32) -> Token
+fn number_from(text: &[u8], from: usize, most: u32) -> Result<Option<(u32, usize)>, Flaw>
     requires { from < length text.now }
     ensures text_value { numbers_from most (within 0 from) from (drop from text.now) ≡ token_answer most text.now result }
     ensures ahead { Ahead most text.now from result }
 {
     let mut n: u32 = 0;
-    let mut at = from;
-    while at < text.len() {
+    for at in from..text.len() {
         let b = text[at];
-        if !is_digit(b) {
-            if is_blank(b) {
-                return Token::Number(n, at + 1);
-            }
-            return Token::Stray(at);
+        if !b.is_ascii_digit() {
+            return if is_blank(b) {
+                Ok(Some((n, at + 1)))
+            } else {
+                Err(Flaw::Stray(at))
+            };
         }
-        let longer = 10 * (n as u64) + digit_value(b);
+        let longer = 10 * (n as u64) + (b - b'0') as u64;
         if (most as u64) + 1 <= longer {
-            return Token::Large(from);
+            return Err(Flaw::Large(from));
         }
         n = longer as u32;
-        at += 1;
     }
-    Token::Number(n, at)
-}
-
-fn is_digit(b: u8) -> bool
-    ensures { result ≡ digit b }
-{
-    if b < 48 {
-        return false;
-    }
-    b < 58
-}
-
-// The number that a digit stands for, 0 where the byte is below all digits.
-fn digit_value(b: u8) -> u64
-    ensures { (result ≡ b - 48) × (result < 256) }
-{
-    if b < 48 {
-        return 0;
-    }
-    (b - 48) as u64
+    Ok(Some((n, text.len())))
 }
 
 // Whether a byte is a space, a tab, a newline or a carriage return.
+#[tactic(auto, unfolding(text::specs::Text::blank))]
 fn is_blank(b: u8) -> bool
     ensures { result ≡ blank b }
 {
-    if b == 32 {
-        return true;
-    }
-    if b == 9 {
-        return true;
-    }
-    if b == 10 {
-        return true;
-    }
-    b == 13
+    b == b' ' || b == b'\t' || b == b'\n' || b == b'\r'
 }

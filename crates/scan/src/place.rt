@@ -1,6 +1,6 @@
 // Where an offset of a text lies, in lines and entries.
-ghost use Rattle.std.specs.Prelude.{◌≡◌, false, ◌+◌, ◌≤◌};
-ghost use Rattle.text.specs.Place.{one_if, newlines, entries_end, line_at, entry_at};
+ghost use Rattle.std.specs.Prelude.{◌≡◌, false, ◌+◌};
+ghost use Rattle.text.specs.Place.{newlines, entries_end, line_at, entry_at};
 
 use crate::is_blank;
 use text::Place;
@@ -11,8 +11,7 @@ pub fn place(text: &[u8], at: usize) -> Place
     ensures line_value { result.line ≡ line_at at text.now }
     ensures result_value { result.entry ≡ entry_at at text.now }
 {
-    let n = within(at, text);
-    place_after(&text[..n])
+    place_after(&text[..within(at, text)])
 }
 
 // The line and the entry of what follows some bytes.
@@ -23,24 +22,11 @@ fn place_after(bytes: &[u8]) -> Place
     let mut line: usize = 1;
     let mut entry: usize = 0;
     let mut inside = false;
-    let mut i: usize = 0;
-    while i < bytes.len() {
-        let b = bytes[i];
-        let blank = is_blank(b);
-        line += one_if(b == 10);
-        entry += one_if(inside & blank);
+    for b in bytes {
+        let blank = is_blank(*b);
+        line += (*b == b'\n') as usize;
+        entry += (inside & blank) as usize;
         inside = !blank;
-        i += 1;
     }
     Place { line, entry }
-}
-
-// 1 for true, and 0 for false.
-fn one_if(t: bool) -> usize
-    ensures { (result ≡ one_if t) × (result ≤ 1) }
-{
-    if t {
-        return 1;
-    }
-    0
 }

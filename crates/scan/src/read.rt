@@ -1,108 +1,95 @@
 // The numbers of a text, at the front of a buffer.
-ghost use Rattle.std.specs.Prelude.{◌≡◌};
+ghost use Rattle.std.specs.Prelude.{◌≡◌, refl, ℕ, ◌≤◌, List, length, set};
 ghost use Rattle.text.specs.Text.{with_parsed, numbers_of, count_of, buffer_of, only_of};
-ghost use Rattle.text.specs.Answers.{found_answer, one_answer, with_room, Leads};
+ghost use Rattle.text.specs.Answers.{found_answer};
 
 use crate::{next_number, scan};
-use text::{Found, One, Token};
+use text::{Flaw, Only};
+
+// What a buffer has: a number of one or two bytes.
+pub trait Entry: Copy {
+    // the number that an entry is, and those of a buffer
+    ghost number: { Self → ℕ };
+
+    ghost numbers: { List Self → List ℕ };
+
+    fn number(self) -> u32
+        ensures { result ≡ number self };
+
+    // The entry of a number that is at most this one's.
+    fn entry(self, n: u32) -> Self
+        requires { n ≤ number self }
+        ensures { number result ≡ n };
+
+    ghost sets: { (xs : List Self) (i : ℕ) (x : Self) → numbers (set xs i x) ≡ set (numbers xs) i (number x) };
+
+    ghost long: { (xs : List Self) → length (numbers xs) ≡ length xs };
+}
+
+impl Entry for u8 {
+    ghost number = { λ n. n };
+
+    ghost numbers = { λ xs. xs };
+
+    ghost sets = { λ xs i x. refl };
+
+    ghost long = { λ xs. refl };
+
+    fn number(self) -> u32 {
+        self as u32
+    }
+
+    fn entry(self, n: u32) -> u8 {
+        n as u8
+    }
+}
+
+impl Entry for u16 {
+    ghost number = { λ n. n };
+
+    ghost numbers = { λ xs. xs };
+
+    ghost sets = { λ xs i x. refl };
+
+    ghost long = { λ xs. refl };
+
+    fn number(self) -> u32 {
+        self as u32
+    }
+
+    fn entry(self, n: u32) -> u16 {
+        n as u16
+    }
+}
 
 // Puts the numbers of a text at the front of a buffer, as many as it has room for. A text that has something wrong leaves it as it was.
-pub fn numbers16(text: &[u8], most: u16, out: &mut [u16]) -> Found
-    ensures result_value { found_answer result ≡ count_of most text.now }
-    ensures out_after { out.new ≡ buffer_of (numbers_of most text.now) out.old }
+pub fn numbers<T: Entry>(text: &[u8], most: T, out: &mut [T]) -> Result<usize, Flaw>
+    ensures result_value { found_answer result ≡ count_of (T.number most) text.now }
+    ensures out_after { T.numbers out.new ≡ buffer_of (numbers_of (T.number most) text.now) (T.numbers out.old) }
 {
-    let found = scan(text, most as u32);
-    let count = with_room(found, out.len());
+    let bound = most.number();
+    let count = scan(text, bound)?;
     let mut at: usize = 0;
-    let mut i: usize = 0;
-    while i < count {
-        let next = entry(text, at, most as u32);
-        at = next.end;
-        out[i] = next.number as u16;
-        i += 1;
+    for i in 0..out.len() {
+        let Some((number, end)) = next_number(text, at, bound)? else {
+            break;
+        };
+        out[i] = most.entry(number);
+        at = end;
     }
-    found
-}
-
-// The same for bytes.
-pub fn numbers8(text: &[u8], most: u8, out: &mut [u8]) -> Found
-    ensures result_value { found_answer result ≡ count_of most text.now }
-    ensures out_after { out.new ≡ buffer_of (numbers_of most text.now) out.old }
-{
-    let found = scan(text, most as u32);
-    let count = with_room(found, out.len());
-    let mut at: usize = 0;
-    let mut i: usize = 0;
-    while i < count {
-        let next = entry(text, at, most as u32);
-        at = next.end;
-        out[i] = next.number as u8;
-        i += 1;
-    }
-    found
-}
-
-// How many of the numbers found go into a buffer of a length.
-fn with_room(found: Found, room: usize) -> usize
-    ensures { result ≡ with_room room (found_answer found) }
-{
-    match found {
-        Found::Count(n) => {
-            if n < room {
-                return n;
-            }
-            room
-        }
-        Found::Stray(_) => 0,
-        Found::Large(_) => 0,
-    }
-}
-
-// A number of a text and the offset past it.
-#[derive(Drop)]
-struct Next {
-    number: u32,
-    end: usize,
-}
-
-// The next number from an offset on, of a text that has one.
-fn entry(text: &[u8], from: usize, most: u32) -> Next
-    ensures { Leads most text.now from result.number result.end }
-{
-    match next_number(text, from, most) {
-        Token::Number(number, end) => Next { number, end },
-        Token::End => Next {
-            number: 0,
-            end: from,
-        },
-        Token::Stray(_) => Next {
-            number: 0,
-            end: from,
-        },
-        Token::Large(_) => Next {
-            number: 0,
-            end: from,
-        },
-    }
+    Ok(count)
 }
 
 // The only number of a text.
-pub fn number(text: &[u8], most: u32) -> One
-    ensures { one_answer result ≡ with_parsed only_of (numbers_of most text.now) }
+pub fn number(text: &[u8], most: u32) -> Result<Only, Flaw>
+    ensures { found_answer result ≡ with_parsed only_of (numbers_of most text.now) }
 {
-    match next_number(text, 0, most) {
-        Token::End => One::None,
-        Token::Stray(p) => One::Stray(p),
-        Token::Large(p) => One::Large(p),
-        Token::Number(n, _) => match scan(text, most) {
-            Found::Stray(p) => One::Stray(p),
-            Found::Large(p) => One::Large(p),
-            Found::Count(k) => {
-                if k == 1 {
-                    return One::Number(n);
-                }
-                One::More
-            }
-        },
+    let Some((number, _)) = next_number(text, 0, most)? else {
+        return Ok(Only::None);
+    };
+    let one = scan(text, most)? == 1;
+    if one {
+        return Ok(Only::One(number));
     }
+    Ok(Only::More)
 }

@@ -1,6 +1,5 @@
 -- The sentence for a refusal by its number and place, as a C function hands it in.
-use Rattle.std.specs.Prelude.{ℕ, List, [], ◌∷◌, get_or}
-use Rattle.std.proofs.Math.Option.{none, some}
+use Rattle.std.specs.Prelude.{ℕ, List, [], ◌∷◌, get_or, None, Some}
 use Rattle.facts.specs.Refusal.{refusal_with}
 use Rattle.report.specs.declared.Subject.{Subject}
 use Rattle.report.specs.declared.Subject.TheVariants.{File, State, Sets, List as OfList, Contracted}
@@ -16,4 +15,4 @@ subject_of about = get_or subjects about Contracted
 
 -- the sentence for the refusal of a number at a place; nothing for a number that no refusal has
 unfoldable pub sentence : Subject → ℕ → ℕ → List ℕ
-sentence s number p = elim (refusal_with number p) [ none ↦ [] | some why ↦ explanation s why ]
+sentence s number p = elim (refusal_with number p) [ None ↦ [] | Some why ↦ explanation s why ]

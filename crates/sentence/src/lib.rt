@@ -3,26 +3,25 @@
 
 ghost use Rattle.std.specs.Prelude.{◌≡◌, ◌≤◌, length};
 ghost use Rattle.facts.specs.Read.{accepted};
+ghost use Rattle.facts.specs.Answers.{answer};
 ghost use Rattle.facts.specs.Refusal.{place};
 ghost use Rattle.facts.specs.Write.{length_in, written_in};
 ghost use Rattle.text.specs.Append.{largest};
 ghost use Rattle.report.specs.Report.{explanation};
-ghost use Rattle.words.specs.Answers.{described_answer};
 ghost use Rattle.sentence.specs.Sentence.{subject_of, sentence};
 
 use explain::put_explanation;
-use facts::{Numbered, Refusal, refusal_with};
+use facts::Refusal;
 use report::Subject;
-use words::Described;
 
 // The sentence for the refusal of a number at a place, about what `about` names: nothing where no refusal has the number, 7 with the length needed; a refusal changes no byte.
-pub fn explain(number: u64, place: usize, about: u64, out: &mut [u8]) -> Described
-    ensures result_value { described_answer result ≡ length_in (length out.old) (accepted (sentence (subject_of about) number place)) }
+pub fn explain(number: u64, place: usize, about: u64, out: &mut [u8]) -> Result<usize, Refusal>
+    ensures result_value { answer result ≡ length_in (length out.old) (accepted (sentence (subject_of about) number place)) }
     ensures out_after { out.new ≡ written_in out.old (accepted (sentence (subject_of about) number place)) }
 {
-    match refusal_with(number, place) {
-        Numbered::Not => Described::Length(0),
-        Numbered::Is(why) => explain_in(subject_of(about), why, out),
+    match Refusal::with(number, place) {
+        None => Ok(0),
+        Some(why) => explain_in(subject_of(about), why, out),
     }
 }
 
@@ -40,16 +39,10 @@ fn subject_of(about: u64) -> Subject
 }
 
 // The sentence for a refusal, which is counted first.
-fn explain_in(subject: Subject, why: Refusal, out: &mut [u8]) -> Described
+fn explain_in(subject: Subject, why: Refusal, out: &mut [u8]) -> Result<usize, Refusal>
     requires { place why ≤ largest }
-    ensures result_value { described_answer result ≡ length_in (length out.old) (accepted (explanation subject why)) }
+    ensures result_value { answer result ≡ length_in (length out.old) (accepted (explanation subject why)) }
     ensures out_after { out.new ≡ written_in out.old (accepted (explanation subject why)) }
 {
-    let mut none = [0; 0];
-    let needed = put_explanation(&mut none, 0, subject, why);
-    if out.len() < needed {
-        return Described::Refused(Refusal::Short(needed));
-    }
-    let written = put_explanation(out, 0, subject, why);
-    Described::Length(written)
+    words::write(out, |text| put_explanation(text, subject, why))
 }

@@ -1,8 +1,6 @@
 -- Laws of steps found by number.
-use Rattle.std.specs.Prelude.{ℕ, zero, suc, ◌+◌, ◌*◌, ◌-◌, ◌≤◌, ◌<◌, ◌≡◌, refl, List, [], ◌∷◌, ◌++◌, get_or}
+use Rattle.std.specs.Prelude.{ℕ, zero, suc, ◌+◌, ◌*◌, ◌-◌, ◌≤◌, ◌<◌, ◌≡◌, refl, List, [], ◌∷◌, ◌++◌, get_or, None, Some, slice_get}
 use Rattle.std.proofs.Common.{sym, ap, ap₂, ◌∙◌, arith, add-one}
-use Rattle.std.proofs.Math.Option.{none, some}
-use Rattle.std.proofs.Math.ListN.{get_elem?}
 use Rattle.facts.specs.Fields.{word_at}
 use Rattle.taskfile.specs.Task.{Edge}
 use Rattle.taskfile.specs.TaskFile.{edge_bytes}
@@ -32,12 +30,12 @@ seek_past (y ∷ xs) ys zero h = absurd (not_found (sym h))
 seek_past (y ∷ xs) ys (suc k) h = seek_past xs ys k h
 
 -- The same by the elements of a list.
-pub look_found : (xs : List Named) (k : ℕ) {x : Named} → seek xs k ≡ found x → get_elem? xs k ≡ some x
+pub look_found : (xs : List Named) (k : ℕ) {x : Named} → seek xs k ≡ found x → slice_get xs k ≡ Some x
 look_found [] k h = absurd (not_found h)
-look_found (y ∷ xs) zero {x} h = let e : y ≡ x = cc in ap some e
+look_found (y ∷ xs) zero {x} h = let e : y ≡ x = cc in ap Some e
 look_found (y ∷ xs) (suc k) h = look_found xs k h
 
-pub look_past : (xs : List Named) (k : ℕ) {l : ℕ} → seek xs k ≡ past l → get_elem? xs k ≡ none
+pub look_past : (xs : List Named) (k : ℕ) {l : ℕ} → seek xs k ≡ past l → slice_get xs k ≡ None
 look_past [] k h = refl
 look_past (y ∷ xs) zero h = absurd (not_found (sym h))
 look_past (y ∷ xs) (suc k) h = look_past xs k h

@@ -1,7 +1,5 @@
 -- The steps of the probe file written from a task, by name.
-use Rattle.std.proofs.Math.Option.{none, some}
-use Rattle.std.specs.Prelude.{ℕ, suc, List, [], ◌∷◌, ◌++◌}
-use Rattle.std.proofs.Math.ListN.{get_elem?}
+use Rattle.std.specs.Prelude.{None, Some, ℕ, suc, List, [], ◌∷◌, ◌++◌, slice_get}
 use Rattle.facts.specs.Read.{Read, accepted, refused}
 use Rattle.taskfile.specs.Task.{Edge, Node, Action, Task}
 use Rattle.compilation.specs.Compile.{map_from, flat}
@@ -38,4 +36,4 @@ name_text (end a) = bytes "end of action " ++ decimal a
 -- each number of a list is a step's, else 11 at its index; the first has the index i
 abbrev pub check_steps : List Named → ℕ → List ℕ → Read (Unit {0})
 check_steps names i [] = accepted tt
-check_steps names i (k ∷ list) = elim (get_elem? names k) [ none ↦ refused 11 i | some x ↦ check_steps names (suc i) list ]
+check_steps names i (k ∷ list) = elim (slice_get names k) [ None ↦ refused 11 i | Some x ↦ check_steps names (suc i) list ]

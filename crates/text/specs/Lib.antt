@@ -2,6 +2,7 @@
 pub mod Text
 pub mod Place
 pub mod Append
+pub mod Writer
 pub mod Answers
 -- Laws.
 pub mod ScanLaws
@@ -9,5 +10,6 @@ pub mod TokenLaws
 pub mod PlaceLaws
 pub mod PrintLaws
 pub mod AppendLaws
+pub mod WriterLaws
 -- Texts and their numbers, computed.
 pub mod Examples

@@ -1,6 +1,7 @@
 -- Laws of reading numbers: one for each way that a byte can go.
-use Rattle.std.specs.Prelude.{ℕ, suc, ◌+◌, ◌-◌, ◌*◌, ◌≤◌, ◌<◌, ◌≡◌, refl, true, false, List, [], ◌∷◌, length, drop, get_or}
-use Rattle.std.proofs.Common.{sym, ap, ◌∙◌, arith, drop_of_length-le, drop-cons, le-leb}
+use Rattle.std.specs.Char.{is_ascii_digit}
+use Rattle.std.specs.Prelude.{ℕ, Bool, leb, ltb, ◌&&◌, suc, ◌+◌, ◌-◌, ◌*◌, ◌≤◌, ◌<◌, ◌≡◌, refl, true, false, List, [], ◌∷◌, length, drop, get_or}
+use Rattle.std.proofs.Common.{sym, ap, ◌∙◌, arith, ltb-true, ltb-false, leb-true, leb-false, drop_of_length-le, drop-cons, le-leb}
 use Rattle.std.proofs.lemmas.Bool.{lt-leb}
 use Rattle.text.specs.Text.{Parsed, parsed, stray, large, with_parsed, Standing, between, within, so_far, began, ended, blank, digit, numbers_from}
 
@@ -13,6 +14,17 @@ pub with_parsed_both : {X Y Z : Type 0} (f : X → Y) (g : Y → Z) (r : Parsed 
 with_parsed_both f g (parsed x) = refl
 with_parsed_both f g (stray p) = refl
 with_parsed_both f g (large p) = refl
+
+-- a digit by the library's test
+pub digit_by : (b : ℕ) {t s : Bool} → t ≡ is_ascii_digit b → t ≡ s → digit b ≡ s
+unfolding digit
+digit_by b e h = go (ltb b 58) refl (leb b 57) refl ∙ sym e ∙ h
+  where
+    go : (t : Bool) → ltb b 58 ≡ t → (s : Bool) → leb b 57 ≡ s → leb 48 b && ltb b 58 ≡ leb 48 b && leb b 57
+    go true t true s = rw (t, s)
+    go false t false s = rw (t, s)
+    go true t false s = absurd (omega (arith, ltb-true b 58 t, leb-false b 57 s))
+    go false t true s = absurd (omega (arith, ltb-false b 58 t, leb-true b 57 s))
 
 -- the byte at an offset and what is after it
 pub rest_cons : (text : List ℕ) (at : ℕ) → at < length text → drop at text ≡ get_or text at 0 ∷ drop (at + 1) text

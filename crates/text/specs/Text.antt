@@ -1,6 +1,8 @@
 -- Numbers as text: decimal, separated by blanks.
 use Rattle.std.specs.Prelude.{ℕ, zero, suc, ◌+◌, ◌-◌, ◌*◌, ◌/◌, ◌%◌, Bool, true, false, ◌&&◌, ◌||◌, List, [], ◌∷◌, ◌++◌, leb, ltb, eqb, length, take}
 use Rattle.facts.specs.Write.{over}
+use Rattle.text.specs.declared.Only.{Only}
+use Rattle.text.specs.declared.Only.TheVariants.{One, None, More}
 
 -- space, tab, newline, carriage return
 unfoldable pub blank : ℕ → Bool
@@ -68,16 +70,11 @@ buffer_of (parsed xs) out = over (take (length out) xs) out
 buffer_of (stray p) out = out
 buffer_of (large p) out = out
 
--- the only number of a text
-pub data Only : Type 0 where
-  one : ℕ → Only
-  none : Only
-  more : Only
-
+-- the only number among some
 abbrev pub only_of : List ℕ → Only
-only_of [] = none
-only_of (x ∷ []) = one x
-only_of (x ∷ y ∷ xs) = more
+only_of [] = None
+only_of (x ∷ []) = One x
+only_of (x ∷ y ∷ xs) = More
 
 -- the digits of n, where k is at least how many digits there are after the first
 abbrev pub decimal_in : ℕ → ℕ → List ℕ
@@ -92,10 +89,6 @@ decimal n = decimal_in n n
 abbrev pub end_of : List ℕ → ℕ
 end_of [] = 10
 end_of (x ∷ xs) = 32
-
--- the same by the number's place in a list: before the index i of so many
-unfoldable pub end_at : ℕ → ℕ → ℕ
-end_at i count = elim (ltb i count) [ true ↦ 32 | false ↦ 10 ]
 
 -- numbers, each with what ends it
 abbrev pub each_text : List ℕ → List ℕ

@@ -1,26 +1,34 @@
 -- Laws of the next number of a text, and of loops over them.
-use Rattle.std.specs.Prelude.{ℕ, zero, suc, ◌+◌, ◌≤◌, ◌<◌, min, ◌≡◌, refl, List, [], ◌∷◌, length, take, drop, set, get_or}
-use Rattle.std.proofs.Common.{sym, ap, subst, ◌∙◌, append_assoc, arith, add-one, length-set, drop-cons, take-suc, length-take-le}
+use Rattle.std.specs.Prelude.{ℕ, Result, Ok, Err, Option, None, Some, IsErrAnd, zero, suc, ◌+◌, ◌≤◌, ◌<◌, min, ◌≡◌, refl, List, [], ◌∷◌, length, take, drop, set, get_or}
+use Rattle.std.proofs.Common.{sym, ap, ◌∙◌, append_assoc, arith, add-one, length-set, length-drop, drop-cons, take-suc, length-take-le}
 use Rattle.std.proofs.Math.Seq.{take-nil}
-use Rattle.std.proofs.lemmas.List.{set_at}
+use Rattle.std.proofs.lemmas.List.{set_at, take_all}
+use Rattle.std.proofs.lemmas.Result.{err_from_is_err_and}
 use Rattle.facts.specs.Write.{over}
-use Rattle.text.specs.declared.Token.{Token}
-use Rattle.text.specs.declared.Token.TheVariants.{Number, End, Stray, Large}
-use Rattle.text.specs.Text.{Parsed, parsed, stray, large, with_parsed, between, numbers_from, numbers_of, count_of, buffer_of, one, more, only_of}
-use Rattle.text.specs.Answers.{token_answer, Bounds, Ahead, Leads, with_room}
+use Rattle.text.specs.declared.Flaw.{Flaw}
+use Rattle.text.specs.declared.Flaw.TheVariants.{Stray, Large}
+use Rattle.text.specs.declared.Only.TheVariants.{One, More}
+use Rattle.text.specs.Text.{Parsed, parsed, stray, large, with_parsed, between, numbers_from, numbers_of, count_of, buffer_of, only_of}
+use Rattle.text.specs.Answers.{wrong, found_answer, Bounds, Ahead}
 
 -- what is ahead of an offset is ahead of those before it
-bounds_from : (most : ℕ) (text : List ℕ) (from at : ℕ) (r : Token) → from ≤ at → Bounds most text at r → Bounds most text from r
-bounds_from most text from at (Number n end) l (m, before, inside) = (m, omega arith, inside)
-bounds_from most text from at End l h = tt
-bounds_from most text from at (Stray p) l h = tt
-bounds_from most text from at (Large p) l h = tt
+bounds_from : (most : ℕ) (text : List ℕ) (from at : ℕ) (r : Result (Option (ℕ × ℕ)) Flaw) → from ≤ at → Bounds most text at r → Bounds most text from r
+bounds_from most text from at (Ok (Some t)) l h = let (small, after, inside) = h in (small, omega arith, inside)
+bounds_from most text from at (Ok None) l h = tt
+bounds_from most text from at (Err why) l h = tt
 
-pub ahead_from : {most : ℕ} {text : List ℕ} {from at : ℕ} {r : Token} → from ≤ at → Ahead most text at r → Ahead most text from r
+pub ahead_from : {most : ℕ} {text : List ℕ} {from at : ℕ} {r : Result (Option (ℕ × ℕ)) Flaw} → from ≤ at → Ahead most text at r → Ahead most text from r
 ahead_from {most} {text} {from} {at} {r} l h = record { bounds = bounds_from most text from at r l h.bounds }
 
-pub ahead_number : {most : ℕ} {text : List ℕ} {from : ℕ} {r : Token} {n end : ℕ} → Ahead most text from r → r ≡ Number n end → (n ≤ most) × (from < end) × (end ≤ length text)
-ahead_number {most} {text} {from} h e = (subst (Ahead most text from) e h).bounds
+-- ---- what is wrong
+
+pub with_wrong : {X Y : Type 0} (f : X → Y) (why : Flaw) → with_parsed f (wrong why) ≡ wrong why
+with_wrong f (Stray p) = refl
+with_wrong f (Large p) = refl
+
+-- what is wrong is handed on by a `?`
+pub wrong_on : {X : Type 0} (r : Result X Flaw) (why : Flaw) → IsErrAnd r (λ e. e ≡ why) → found_answer r ≡ wrong why
+wrong_on r why h = let p = err_from_is_err_and r h in ap found_answer p.1 ∙ ap wrong p.2
 
 -- ---- how many numbers there are
 
@@ -53,11 +61,8 @@ module _ {most : ℕ} {text : List ℕ} {at count : ℕ} (g : Counting most text
     total = g.total ∙ ap (with_parsed (λ (xs : List ℕ). count + length xs)) h ∙ plus_one n count (numbers_from most between end (drop end text));
   }
 
-  pub counting_stray : {p : ℕ} → numbers_from most between at (drop at text) ≡ stray p → count_of most text ≡ stray p
-  counting_stray h = g.total ∙ ap (with_parsed (λ (xs : List ℕ). count + length xs)) h
-
-  pub counting_large : {p : ℕ} → numbers_from most between at (drop at text) ≡ large p → count_of most text ≡ large p
-  counting_large h = g.total ∙ ap (with_parsed (λ (xs : List ℕ). count + length xs)) h
+  pub counting_wrong : (why : Flaw) → numbers_from most between at (drop at text) ≡ wrong why → count_of most text ≡ wrong why
+  counting_wrong why h = g.total ∙ ap (with_parsed (λ (xs : List ℕ). count + length xs)) h ∙ with_wrong (λ (xs : List ℕ). count + length xs) why
 
   pub counting_end : numbers_from most between at (drop at text) ≡ parsed [] → count_of most text ≡ parsed count
   counting_end h = g.total ∙ ap (with_parsed (λ (xs : List ℕ). count + length xs)) h ∙ ap parsed (omega arith)
@@ -69,23 +74,6 @@ first_is : (n : ℕ) (xs : List ℕ) (r : Parsed (List ℕ)) → with_parsed (λ
 first_is n xs (parsed ys) h = (ys, refl, cc)
 first_is n xs (stray p) h = let z : ◌≡◌ {A = ℕ} 0 1 = cc in absurd (omega arith)
 first_is n xs (large p) h = let z : ◌≡◌ {A = ℕ} 0 1 = cc in absurd (omega arith)
-
-pub leads_number : {most : ℕ} {text : List ℕ} {from : ℕ} {t : Token} {n end : ℕ} → Ahead most text from t → numbers_from most between from (drop from text) ≡ token_answer most text t → t ≡ Number n end
-    → Leads most text from n end
-leads_number {most} {text} {n = n} {end} a h e = record {
-  small = (ahead_number a e).0;
-  leads = λ {x} {xs} is. let (ys, r, same) = first_is n (x ∷ xs) (numbers_from most between end (drop end text)) (sym (h ∙ ap (token_answer most text) e) ∙ is) in (cc, r ∙ cc);
-}
-
--- where no number stands nothing is said
-abbrev None : Parsed (List ℕ) → Type 0
-None (parsed []) = Unit {0}
-None (parsed (x ∷ xs)) = ⊥
-None (stray p) = Unit {0}
-None (large p) = Unit {0}
-
-pub leads_none : {most : ℕ} {text : List ℕ} {from end : ℕ} {r : Parsed (List ℕ)} → numbers_from most between from (drop from text) ≡ r → None r → Leads most text from 0 end
-leads_none h none = record { small = omega arith; leads = λ is. absurd (subst None (sym h ∙ is) none) }
 
 -- one number more at the front
 over_one : (xs before : List ℕ) (i n : ℕ) → i < length xs → i < length before → n ≡ get_or xs i 0 → set (over (take i xs) before) i n ≡ over (take (i + 1) xs) before
@@ -114,53 +102,68 @@ are_parsed (parsed ys) h = ap parsed h
 are_parsed (stray p) h = let l = ap length h in absurd (omega arith)
 are_parsed (large p) h = let l = ap length h in absurd (omega arith)
 
-room_entries : (room : ℕ) (r : Parsed (List ℕ)) → with_room room (with_parsed length r) ≡ min (length (entries r)) room
-room_entries room (parsed xs) = refl
-room_entries room (stray p) = omega arith
-room_entries room (large p) = omega arith
-
 buffer_entries : (r : Parsed (List ℕ)) (out : List ℕ) → over (take (length out) (entries r)) out ≡ buffer_of r out
 unfolding over buffer_of
 buffer_entries (parsed xs) out = refl
 buffer_entries (stray p) out = rw (take-nil (length out))
 buffer_entries (large p) out = rw (take-nil (length out))
 
--- i numbers, those before the offset, stand at the front, of `count` that have room
-pub record Filling (most : ℕ) (text before now : List ℕ) (count at i : ℕ) : Type 0 where
-  pub long : length now ≡ length before
-  pub least : count ≡ min (length (entries (numbers_of most text))) (length before)
-  pub few : i ≤ count
-  pub front : now ≡ over (take i (entries (numbers_of most text))) before
-  pub rest : entries (numbers_from most between at (drop at text)) ≡ drop i (entries (numbers_of most text))
+-- where something is wrong a buffer stays as it was
+pub buffer_wrong : (why : Flaw) (r : Parsed (List ℕ)) {out : List ℕ} → r ≡ wrong why → out ≡ buffer_of r out
+unfolding buffer_of
+buffer_wrong (Stray p) (stray q) e = refl
+buffer_wrong (Stray p) (parsed xs) e = let z : ◌≡◌ {A = ℕ} 0 1 = cc in absurd (omega arith)
+buffer_wrong (Stray p) (large q) e = let z : ◌≡◌ {A = ℕ} 0 1 = cc in absurd (omega arith)
+buffer_wrong (Large p) (large q) e = refl
+buffer_wrong (Large p) (parsed xs) e = let z : ◌≡◌ {A = ℕ} 0 1 = cc in absurd (omega arith)
+buffer_wrong (Large p) (stray q) e = let z : ◌≡◌ {A = ℕ} 0 1 = cc in absurd (omega arith)
 
-pub filling_start : (most : ℕ) (text out : List ℕ) {found : Parsed ℕ} {count : ℕ} → found ≡ count_of most text → count ≡ with_room (length out) found → Filling most text out out count 0 0
+-- i numbers, those before the offset, stand at the front of a buffer
+pub record Filling (most : ℕ) (text before now : List ℕ) (at i : ℕ) : Type 0 where
+  pub long : length now ≡ length before
+  pub few : i ≤ length (entries (numbers_of most text))
+  pub front : now ≡ over (take i (entries (numbers_of most text))) before
+  pub rest : numbers_from most between at (drop at text) ≡ parsed (drop i (entries (numbers_of most text)))
+
+parsed_entries : (r : Parsed (List ℕ)) {n : ℕ} → with_parsed length r ≡ parsed n → r ≡ parsed (entries r)
+parsed_entries (parsed xs) h = refl
+parsed_entries (stray p) h = let z : ◌≡◌ {A = ℕ} 0 1 = cc in absurd (omega arith)
+parsed_entries (large p) h = let z : ◌≡◌ {A = ℕ} 0 1 = cc in absurd (omega arith)
+
+pub filling_start : (most : ℕ) (text out : List ℕ) {n : ℕ} → parsed n ≡ count_of most text → Filling most text out out 0 0
 unfolding numbers_of count_of over
-filling_start most text out is e = record {
+filling_start most text out is = record {
   long = refl;
-  least = e ∙ ap (with_room (length out)) is ∙ room_entries (length out) (numbers_of most text);
   few = omega arith;
   front = refl;
-  rest = refl;
+  rest = parsed_entries (numbers_of most text) (sym is);
 }
 
-module _ {most : ℕ} {text before now : List ℕ} {count at i : ℕ} (g : Filling most text before now count at i) where
-  pub filling_inside : i < count → i < length now
-  filling_inside l = omega (arith, g.long, g.least)
-
-  pub filling_next : {n end : ℕ} → i < count → Leads most text at n end → Filling most text before (set now i n) count end (i + 1)
-  filling_next {n} {end} l h =
-      let m : i < length (entries (numbers_of most text)) = omega (arith, g.least) in
-      let (first, others) = h.leads (are_parsed (numbers_from most between at (drop at text)) (g.rest ∙ drop-cons (entries (numbers_of most text)) i 0 m)) in
+module _ {most : ℕ} {text before now : List ℕ} {at i : ℕ} (g : Filling most text before now at i) where
+  -- one number more, and then the others
+  pub filling_next : (n end : ℕ) → i < length now → numbers_from most between at (drop at text) ≡ with_parsed (λ (xs : List ℕ). n ∷ xs) (numbers_from most between end (drop end text)) → Filling most text before (set now i n) end (i + 1)
+  filling_next n end l h =
+      let (ys, others, first) = first_is n (drop i (entries (numbers_of most text))) (numbers_from most between end (drop end text)) (sym h ∙ g.rest) in
+      let m : i < length (entries (numbers_of most text)) = omega (arith, length-drop i (entries (numbers_of most text)), ap length first) in
+      let here : get_or (entries (numbers_of most text)) i 0 ∷ drop (suc i) (entries (numbers_of most text)) ≡ n ∷ ys = sym (drop-cons (entries (numbers_of most text)) i 0 m) ∙ first in
       record {
         long = length-set now i n ∙ g.long;
-        least = g.least;
         few = omega arith;
-        front = ap (λ (z : List ℕ). set z i n) g.front ∙ over_one (entries (numbers_of most text)) before i n m (omega (arith, g.least)) first;
-        rest = ap entries others ∙ rw (add-one i);
+        front = ap (λ (z : List ℕ). set z i n) g.front ∙ over_one (entries (numbers_of most text)) before i n m (omega (arith, g.long)) cc;
+        rest = others ∙ rw (add-one i) cc;
       }
 
-  pub filling_done : count ≤ i → now ≡ buffer_of (numbers_of most text) before
-  filling_done l = g.front ∙ ap (λ (ys : List ℕ). over ys before) (take_room (entries (numbers_of most text)) i (length before) (omega (arith, g.few, g.least))) ∙ buffer_entries (numbers_of most text) before
+  -- all that there are, or all that there is room for
+  pub filling_none : i < length now → numbers_from most between at (drop at text) ≡ parsed [] → now ≡ buffer_of (numbers_of most text) before
+  filling_none l h =
+      let none : drop i (entries (numbers_of most text)) ≡ [] = cc in
+      let all : length (entries (numbers_of most text)) ≡ i = omega (arith, length-drop i (entries (numbers_of most text)), ap length none, g.few) in
+      g.front
+      ∙ ap (λ (ys : List ℕ). over ys before) (take_all i (entries (numbers_of most text)) (omega arith) ∙ sym (take_all (length before) (entries (numbers_of most text)) (omega (arith, g.long))))
+      ∙ buffer_entries (numbers_of most text) before
+
+  pub filling_full : i ≡ length now → now ≡ buffer_of (numbers_of most text) before
+  filling_full l = g.front ∙ ap (λ (k : ℕ). over (take k (entries (numbers_of most text))) before) (l ∙ g.long) ∙ buffer_entries (numbers_of most text) before
 
 -- ---- what is answered
 
@@ -185,13 +188,10 @@ module _ (most : ℕ) (text : List ℕ) where
   unfolding count_of
   count_of_lem h = counted (numbers_of most text) h
 
-  pub stray_of : {p : ℕ} → count_of most text ≡ stray p → numbers_of most text ≡ stray p
+  pub wrong_of : (why : Flaw) → count_of most text ≡ wrong why → numbers_of most text ≡ wrong why
   unfolding count_of
-  stray_of h = is_stray (numbers_of most text) h
-
-  pub large_of : {p : ℕ} → count_of most text ≡ large p → numbers_of most text ≡ large p
-  unfolding count_of
-  large_of h = is_large (numbers_of most text) h
+  wrong_of (Stray p) h = is_stray (numbers_of most text) h
+  wrong_of (Large p) h = is_large (numbers_of most text) h
 
   -- from the beginning
   pub from_start : (r : Parsed (List ℕ)) → numbers_from most between 0 (drop 0 text) ≡ r → numbers_of most text ≡ r
@@ -199,22 +199,22 @@ module _ (most : ℕ) (text : List ℕ) where
   from_start r h = h
 
   -- the only number, or the first of more
-  pub only_one : {t : Token} {n end k : ℕ} → numbers_of most text ≡ token_answer most text t → t ≡ Number n end → count_of most text ≡ parsed k → k ≡ 1 → with_parsed only_of (numbers_of most text) ≡ parsed (one n)
-  only_one {n = n} {end} h t c e =
+  pub only_one : (n end : ℕ) {k : ℕ} → numbers_of most text ≡ with_parsed (λ (xs : List ℕ). n ∷ xs) (numbers_from most between end (drop end text)) → count_of most text ≡ parsed k → k ≡ 1 → with_parsed only_of (numbers_of most text) ≡ parsed (One n)
+  only_one n end h c e =
       let (xs, is, long) = count_of_lem c in
-      let (ys, rest, first) = first_is n xs (numbers_from most between end (drop end text)) (sym (h ∙ ap (token_answer most text) t) ∙ is) in
+      let (ys, rest, first) = first_is n xs (numbers_from most between end (drop end text)) (sym h ∙ is) in
       ap (with_parsed only_of) is ∙ only_of_lem n xs ys first (omega arith)
     where
-      only_of_lem : (n : ℕ) (xs ys : List ℕ) → xs ≡ n ∷ ys → length xs ≡ 1 → with_parsed only_of (parsed xs) ≡ parsed (one n)
+      only_of_lem : (n : ℕ) (xs ys : List ℕ) → xs ≡ n ∷ ys → length xs ≡ 1 → with_parsed only_of (parsed xs) ≡ parsed (One n)
       only_of_lem n xs [] e l = ap (λ (z : List ℕ). parsed (only_of z)) e
       only_of_lem n xs (y ∷ ys) e l = let long = ap length e in absurd (omega arith)
 
-  pub only_more : {t : Token} {n end k : ℕ} → numbers_of most text ≡ token_answer most text t → t ≡ Number n end → count_of most text ≡ parsed k → (k ≡ 1 → ⊥) → with_parsed only_of (numbers_of most text) ≡ parsed more
-  only_more {n = n} {end} h t c e =
+  pub only_more : (n end : ℕ) {k : ℕ} → numbers_of most text ≡ with_parsed (λ (xs : List ℕ). n ∷ xs) (numbers_from most between end (drop end text)) → count_of most text ≡ parsed k → (k ≡ 1 → ⊥) → with_parsed only_of (numbers_of most text) ≡ parsed More
+  only_more n end h c e =
       let (xs, is, long) = count_of_lem c in
-      let (ys, rest, first) = first_is n xs (numbers_from most between end (drop end text)) (sym (h ∙ ap (token_answer most text) t) ∙ is) in
+      let (ys, rest, first) = first_is n xs (numbers_from most between end (drop end text)) (sym h ∙ is) in
       ap (with_parsed only_of) is ∙ more_of n xs ys first (λ l. e (sym long ∙ l))
     where
-      more_of : (n : ℕ) (xs ys : List ℕ) → xs ≡ n ∷ ys → (length xs ≡ 1 → ⊥) → with_parsed only_of (parsed xs) ≡ parsed more
+      more_of : (n : ℕ) (xs ys : List ℕ) → xs ≡ n ∷ ys → (length xs ≡ 1 → ⊥) → with_parsed only_of (parsed xs) ≡ parsed More
       more_of n xs [] e l = absurd (l (ap length e))
       more_of n xs (y ∷ ys) e l = ap (λ (z : List ℕ). parsed (only_of z)) e

@@ -2,36 +2,27 @@
 #![tactic(auto)]
 
 pub mod append;
+pub mod input;
 
-// How many numbers a text has; or the offset of a byte that is neither a digit nor a blank; or the offset at which a number above the bound begins.
-#[derive(Clone, Copy)]
-pub enum Found {
-    Count(usize),
+// What is wrong with a text of numbers.
+#[derive(Clone, Copy, Debug, PartialEq, Eq)]
+pub enum Flaw {
+    // a byte that is neither a digit nor a blank, at an offset
     Stray(usize),
+    // a number above the bound, which begins at an offset
     Large(usize),
 }
 
-// The only number of a text; none, or more than one; or what is wrong.
-#[derive(Clone, Copy)]
-pub enum One {
-    Number(u32),
+// The only number of a text; none, or more than one.
+#[derive(Clone, Copy, Debug, PartialEq, Eq)]
+pub enum Only {
+    One(u32),
     None,
     More,
-    Stray(usize),
-    Large(usize),
-}
-
-// The next number of a text and the offset past it; no further one; or what is wrong.
-#[derive(Clone, Copy)]
-pub enum Token {
-    Number(u32, usize),
-    End,
-    Stray(usize),
-    Large(usize),
 }
 
 // A place of a text: its line, counted from 1, and its entry, counted from 0.
-#[derive(Clone, Copy)]
+#[derive(Clone, Copy, Debug, PartialEq, Eq)]
 pub struct Place {
     pub line: usize,
     pub entry: usize,

@@ -1,8 +1,7 @@
 -- How long a trace is: for every accepted task file and every list that is taken no longer than the bench tool's buffer.
-use Rattle.std.specs.Prelude.{ℕ, suc, ◌+◌, ◌*◌, ◌≤◌, ◌<◌, ◌≡◌, refl, Bool, true, false, List, [], ◌∷◌, ◌++◌, length, leb}
+use Rattle.std.specs.Prelude.{ℕ, suc, ◌+◌, ◌*◌, ◌≤◌, ◌<◌, ◌≡◌, refl, Bool, true, false, List, [], ◌∷◌, ◌++◌, length, leb, Option, None, Some, slice_get}
 use Rattle.std.proofs.Common.{subst, arith, leb-true}
-use Rattle.std.proofs.Math.Option.{Option, none, some}
-use Rattle.std.proofs.Math.ListN.{get_elem?, length-append}
+use Rattle.std.proofs.Math.ListN.{length-append}
 use Rattle.facts.specs.Read.{accepted}
 use Rattle.facts.specs.ReadLaws.{checked, through}
 use Rattle.facts.specs.Lists.{All}
@@ -107,7 +106,7 @@ module _ (states : Bool) (sizes : List ℕ) (few : length sizes ≤ max_variable
   module _ (names : List Named) (pre eff : ℕ → Partial) (numbers : length names ≤ max_steps) (brief : All Brief names) (each : (k : ℕ) → k < length names → Small sizes (pre k) (eff k)) where
     entries_most : (list s : List ℕ) (sum : ℕ) → sum + max_weight * length list < 1000000000 → Inside sizes s → length (entries_text states (entries names pre eff sum list s)) ≤ 448 * length list + 2048
     entries_most [] s sum l inside = omega arith
-    entries_most (k ∷ list) s sum l inside = go (get_elem? names k) refl (λ x w b. entries_most list (apply (eff k) s) (sum + x.cost) (omega (arith, b.cost)) (apply_inside (eff k) sizes s w.eff_wf.values inside))
+    entries_most (k ∷ list) s sum l inside = go (slice_get names k) refl (λ x w b. entries_most list (apply (eff k) s) (sum + x.cost) (omega (arith, b.cost)) (apply_inside (eff k) sizes s w.eff_wf.values inside))
       where
         turn : (t : Bool) (x : Named) (w : Small sizes (pre k) (eff k)) (b : Brief x) → k < max_steps → (es : List Entry) → length (entries_text states es) ≤ 448 * length list + 2048
             → length (entries_text states (elim t as (λ t. Entry) [ true ↦ went k x (pre k) (eff k) (sum + x.cost) (apply (eff k) s) | false ↦ stuck k x (pre k) s ] ∷ elim t as (λ t. List Entry) [ true ↦ es | false ↦ [] ])) ≤ 448 * suc (length list) + 2048
@@ -122,11 +121,11 @@ module _ (states : Bool) (sizes : List ℕ) (few : length sizes ≤ max_variable
         turn false x w b n es m =
             omega (arith, length-append {A = ℕ} (step_text k x.name ++ stuck_text (pre k) s) [], length-append (step_text k x.name) (stuck_text (pre k) s), name_most n b w, stuck_most n b w s inside)
 
-        go : (o : Option Named) → get_elem? names k ≡ o
+        go : (o : Option Named) → slice_get names k ≡ o
             → ((x : Named) (w : Small sizes (pre k) (eff k)) (b : Brief x) → length (entries_text states (entries names pre eff (sum + x.cost) list (apply (eff k) s))) ≤ 448 * length list + 2048)
             → length (entries_text states (from names pre eff k sum list s o)) ≤ 448 * suc (length list) + 2048
-        go none e on = omega arith
-        go (some x) e on =
+        go None e on = omega arith
+        go (Some x) e on =
             let at = found names k e in
             let w = each k (at_length at) in
             let b = all_at Brief brief at in

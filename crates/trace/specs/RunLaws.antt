@@ -1,10 +1,8 @@
 -- What a trace is worth: where the run of a list on the compilation of its task answers a sum, it is the trace's last; and an entry is marked exactly if the run is refused by 9 there.
-use Rattle.std.specs.Prelude.{ℕ, suc, ◌+◌, ◌≡◌, refl, ◌↔◌, Bool, true, false, ltb, length, get_or}
+use Rattle.std.specs.Prelude.{ℕ, suc, ◌+◌, ◌≡◌, refl, ◌↔◌, Bool, true, false, ltb, length, get_or, Option, Some, slice_get}
 use Rattle.std.proofs.Common.{sym, ap, ◌∙◌, arith, ltb-true, ltb-false}
 use Rattle.std.proofs.Math.Path.{subst}
-use Rattle.std.proofs.Math.Option.{Option, some}
 use mathlib.Core.List.{List, [], ◌∷◌}
-use Rattle.std.proofs.Math.ListN.{get_elem?}
 use Rattle.facts.specs.Read.{Read, accepted, refused, check, ◌>>=◌}
 use Rattle.facts.specs.ReadLaws.{not_refused}
 use Rattle.facts.specs.Lists.{At}
@@ -45,7 +43,7 @@ pub data Agrees : Read ℕ → Outcome → Type 0 where
   blocks : {i : ℕ} → Agrees (refused 9 i) (stops i)
 
 -- Steps with these names, preconditions and effects.
-module _ (names : List Named) (move : ℕ → List ℕ → Move) (pre eff : ℕ → Partial) (goal : Partial) (does : (k : ℕ) (s : List ℕ) (x : Named) → get_elem? names k ≡ some x → move k s ≡ attempt (pre k) (eff k) x.cost s) where
+module _ (names : List Named) (move : ℕ → List ℕ → Move) (pre eff : ℕ → Partial) (goal : Partial) (does : (k : ℕ) (s : List ℕ) (x : Named) → slice_get names k ≡ Some x → move k s ≡ attempt (pre k) (eff k) x.cost s) where
   goal_agrees : (t : Bool) (i sum : ℕ) → Agrees (◌>>=◌ (check t 10 i) (λ u. accepted sum)) (sums sum)
   goal_agrees true i sum = met
   goal_agrees false i sum = unmet

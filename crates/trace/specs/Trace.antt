@@ -1,7 +1,5 @@
 -- A probe list as a trace: of each step its name, what it needs and sets, the sum up to it, and the state after it where asked for; the first step that does not apply ends it.
-use Rattle.std.specs.Prelude.{ℕ, ◌+◌, Bool, true, false, List, [], ◌∷◌, ◌++◌, length}
-use Rattle.std.proofs.Math.Option.{none, some}
-use Rattle.std.proofs.Math.ListN.{get_elem?}
+use Rattle.std.specs.Prelude.{ℕ, ◌+◌, Bool, true, false, List, [], ◌∷◌, ◌++◌, length, None, Some, slice_get}
 use Rattle.facts.specs.Partial.{Partial, holds, apply}
 use Rattle.text.specs.Text.{decimal}
 use Rattle.text.specs.Append.{bytes}
@@ -25,9 +23,9 @@ entry k x pre eff sum s = elim (holds pre s) [ true ↦ went k x pre eff (sum + 
 abbrev pub entries : List Named → (ℕ → Partial) → (ℕ → Partial) → ℕ → List ℕ → List ℕ → List Entry
 entries names pre eff sum [] s = []
 entries names pre eff sum (k ∷ list) s =
-    elim (get_elem? names k) [
-      | none ↦ []
-      | some x ↦ entry k x (pre k) (eff k) sum s ∷ elim (holds (pre k) s) [ true ↦ entries names pre eff (sum + x.cost) list (apply (eff k) s) | false ↦ [] ]
+    elim (slice_get names k) [
+      | None ↦ []
+      | Some x ↦ entry k x (pre k) (eff k) sum s ∷ elim (holds (pre k) s) [ true ↦ entries names pre eff (sum + x.cost) list (apply (eff k) s) | false ↦ [] ]
     ]
 
 -- ---- in words

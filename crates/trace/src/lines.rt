@@ -1,7 +1,7 @@
 // A list traced from a copy of the initial values, one entry after the other.
 ghost use Rattle.std.specs.Prelude.{◌+◌, ◌*◌, ◌≤◌, length, take, drop};
 ghost use Rattle.probefile.specs.Probe.{max_variables, max_list};
-ghost use Rattle.text.specs.Append.{Adds};
+ghost use Rattle.text.specs.Writer.{Appends};
 ghost use Rattle.steps.specs.Seek.{names_in};
 ghost use Rattle.failure.specs.InPlace.{pre_at, eff_at};
 ghost use Rattle.trace.specs.Trace.{entries, entries_text, trace_text};
@@ -9,11 +9,12 @@ ghost use Rattle.trace.specs.Trace.{entries, entries_text, trace_text};
 use crate::entry::{put_entry, put_state};
 use facts::number::offset_at;
 use probefile::Probe;
-use steps::find::{Sought, find_step};
+use steps::find::find_step;
+use text::append::Writer;
 
 // The trace of a list: the state is a copy of the initial values, which stand in the probe file.
 pub fn put_trace(
-    out: &mut [u8],
+    out: &mut Writer,
     file: &[u8],
     sizes: &[u8],
     actions: usize,
@@ -23,9 +24,11 @@ pub fn put_trace(
     offsets: &[usize],
     list: &[u16],
     states: bool,
-) -> usize
-    requires { (variables ≤ max_variables) × (1 + 2 * variables ≤ length probe.now) × (length list.now ≤ max_list) }
-    ensures { Adds (trace_text states (names_in file.now sizes.now actions row.now) (pre_at probe.now offsets.now) (eff_at probe.now offsets.now) list.now (take variables (drop (1 + variables) probe.now))) out.old out.new 0 result }
+)
+    requires variables_le_max_variables { variables ≤ max_variables }
+    requires values { 1 + 2 * variables ≤ length probe.now }
+    requires few { length list.now ≤ max_list }
+    ensures { Appends (trace_text states (names_in file.now sizes.now actions row.now) (pre_at probe.now offsets.now) (eff_at probe.now offsets.now) list.now (take variables (drop (1 + variables) probe.now))) out.old out.new }
 {
     let init = 1 + variables;
     let goal = init + variables;
@@ -42,12 +45,12 @@ pub fn put_trace(
         list,
         states,
         &mut state[..variables],
-    )
+    );
 }
 
 // The same from a state.
 fn put_from(
-    out: &mut [u8],
+    out: &mut Writer,
     file: &[u8],
     sizes: &[u8],
     actions: usize,
@@ -57,20 +60,19 @@ fn put_from(
     list: &[u16],
     states: bool,
     state: &mut [u8],
-) -> usize
+)
     requires { length list.now ≤ max_list }
-    ensures { Adds (trace_text states (names_in file.now sizes.now actions row.now) (pre_at probe.now offsets.now) (eff_at probe.now offsets.now) list.now state.old) out.old out.new 0 result }
+    ensures { Appends (trace_text states (names_in file.now sizes.now actions row.now) (pre_at probe.now offsets.now) (eff_at probe.now offsets.now) list.now state.old) out.old out.new }
 {
-    let first = put_state(out, 0, states, b"initial state:", state);
+    put_state(out, states, b"initial state:", state);
     put_entries(
-        out, first, file, sizes, actions, row, probe, offsets, list, states, state,
-    )
+        out, file, sizes, actions, row, probe, offsets, list, states, state,
+    );
 }
 
 // The entries of a list, up to the first that does not apply.
 fn put_entries(
-    out: &mut [u8],
-    at: usize,
+    out: &mut Writer,
     file: &[u8],
     sizes: &[u8],
     actions: usize,
@@ -80,31 +82,20 @@ fn put_entries(
     list: &[u16],
     states: bool,
     state: &mut [u8],
-) -> usize
+)
     requires { length list.now ≤ max_list }
-    ensures { Adds (entries_text states (entries (names_in file.now sizes.now actions row.now) (pre_at probe.now offsets.now) (eff_at probe.now offsets.now) 0 list.now state.old)) out.old out.new at result }
+    ensures { Appends (entries_text states (entries (names_in file.now sizes.now actions row.now) (pre_at probe.now offsets.now) (eff_at probe.now offsets.now) 0 list.now state.old)) out.old out.new }
 {
-    let mut end = at;
     let mut sum: u64 = 0;
-    let mut i: usize = 0;
-    while i < list.len() {
+    for i in 0..list.len() {
         let k = list[i];
-        match find_step(file, sizes, actions, row, k as usize) {
-            Sought::Past(_) => {
-                return end;
-            }
-            Sought::Found(name, cost) => {
-                let place = offset_at(offsets, k as usize);
-                let entry = put_entry(out, end, probe, place, k, name, cost, sum, states, state);
-                end = entry.end;
-                sum = entry.sum;
-                if entry.goes {
-                    i += 1;
-                    continue;
-                }
-                return end;
-            }
-        }
+        let Ok((name, cost)) = find_step(file, sizes, actions, row, k as usize) else {
+            return;
+        };
+        let place = offset_at(offsets, k as usize);
+        let Some(paid) = put_entry(out, probe, place, k, name, cost, sum, states, state) else {
+            return;
+        };
+        sum = paid;
     }
-    end
 }

@@ -1,11 +1,10 @@
 -- How long texts about tasks are: for every accepted task file the task in words and its drawings are no longer than the bench tool's buffer.
-use Rattle.std.specs.Prelude.{ℕ, zero, suc, ◌+◌, ◌*◌, ◌%◌, ◌≤◌, ◌<◌, ◌≡◌, refl, Bool, true, false, leb, take, drop}
+use Rattle.std.specs.Prelude.{ℕ, zero, suc, ◌+◌, ◌*◌, ◌%◌, ◌≤◌, ◌<◌, ◌≡◌, refl, Bool, true, false, leb, take, drop, Option, None, Some, slice_get}
 use Rattle.std.proofs.Common.{ap, ◌∙◌, mul-suc, mul-add, length-drop}
 use Rattle.std.proofs.Math.Path.{subst}
-use Rattle.std.proofs.Math.Option.{Option, none, some}
 use mathlib.Core.List.{List, [], ◌∷◌, ◌++◌}
 use native.Mathlib.Omega.{arith}
-use Rattle.std.proofs.Math.ListN.{length, get_or, get_elem?, length-append}
+use Rattle.std.proofs.Math.ListN.{length, get_or, length-append}
 use Rattle.facts.specs.Read.{accepted, refused}
 use Rattle.facts.specs.ReadLaws.{not_refused, made, through}
 use Rattle.facts.specs.Lists.{total, At, here, there, All}
@@ -241,11 +240,11 @@ accepted_same e = cc
 
 action_at_lem : (actions : List Action) (a : ℕ) {x : Action} → action_of actions a ≡ accepted x → At actions a x
 unfolding action_of
-action_at_lem actions a {x} h = go (get_elem? actions a) refl h
+action_at_lem actions a {x} h = go (slice_get actions a) refl h
   where
-    go : (o : Option Action) → get_elem? actions a ≡ o → elim o [ none ↦ refused 11 0 | some y ↦ accepted y ] ≡ accepted x → At actions a x
-    go none e h = absurd (not_refused h)
-    go (some y) e h = let same : y ≡ x = cc in found actions a (e ∙ ap some same)
+    go : (o : Option Action) → slice_get actions a ≡ o → elim o [ None ↦ refused 11 0 | Some y ↦ accepted y ] ≡ accepted x → At actions a x
+    go None e h = absurd (not_refused h)
+    go (Some y) e h = let same : y ≡ x = cc in found actions a (e ∙ ap Some same)
 
 module _ (f : List ℕ) (b : Bytes f) {text : List ℕ} where
   pub shown_most : shown f ≡ accepted text → length text ≤ most_text

@@ -1,12 +1,11 @@
 -- From the index of an accepted task file to the operations: what is written from the parts in place is the task's text.
 use Rattle.std.specs.Prelude.{ℕ, ◌+◌, ◌*◌, ◌-◌, ◌≤◌, ◌<◌, ◌≡◌, List, [], ◌∷◌, ◌++◌, length, get_or, take, drop}
-use Rattle.std.proofs.Common.{sym, ◌∙◌}
+use Rattle.std.proofs.Common.{sym, ◌∙◌, append_assoc}
 use Rattle.std.proofs.Math.Path.{ap}
 use native.Mathlib.Omega.{arith}
 use Rattle.facts.specs.Read.{Read, accepted, refused}
 use Rattle.facts.specs.ReadLaws.{not_made}
 use Rattle.facts.specs.Write.{length_in, written_in}
-use Rattle.facts.specs.WriteLaws.{short_in, wrote_in}
 use Rattle.facts.specs.ListLaws.{look, look_none}
 use Rattle.facts.specs.Partial.{partial_at}
 use Rattle.taskfile.specs.Task.{Action, Task}
@@ -18,13 +17,12 @@ use Rattle.taskfile.proofs.AnswerLaws.{starts, sizes_there}
 use Rattle.taskfile.specs.PartsInPlace.{actions_in}
 use Rattle.taskfile.specs.PartsInPlaceLaws.{at_some, action_here, actions_in_place}
 use Rattle.compilation.specs.Compile.{flat}
-use Rattle.text.specs.Append.{bytes, largest, Adds}
-use Rattle.text.specs.AppendLaws.{adds_end, adds_wrote}
+use Rattle.text.specs.Append.{bytes}
 use Rattle.words.specs.Words.{partial_text}
 use Rattle.words.specs.Show.{variable_text, action_text, task_text}
 use Rattle.words.specs.Dot.{dot_action}
 use Rattle.words.specs.DotLaws.{drawing_text, row_one}
-use Rattle.words.specs.Rows.{row_from, action_for, showing, drawing}
+use Rattle.words.specs.Rows.{row_from, heading, action_for, showing, drawing}
 use Rattle.words.specs.RowLaws.{actions_row, list_row}
 use Rattle.words.specs.DescribeFile.{shown, drawn, drawn_action}
 
@@ -32,20 +30,24 @@ use Rattle.words.specs.DescribeFile.{shown, drawn, drawn_action}
 pub variables_row : (sizes init : List ℕ) → row_from (λ v. variable_text v (get_or sizes v 0) (get_or init v 0)) 0 (length sizes) ≡ flat (λ v size. variable_text v size (get_or init v 0)) 0 sizes
 variables_row sizes init = sym (list_row (λ v size. variable_text v size (get_or init v 0)) sizes sizes 0 (λ k j l e. let same : j ≡ k = omega arith in rw same))
 
+-- What is written after the variables and the goal.
+pub heading_then : (f : List ℕ) (n : ℕ) (rest : List ℕ) → (let sizes = take (1 + n - 1) (drop 1 f) in
+    let init = take (1 + n + n - (1 + n)) (drop (1 + n) f) in
+    heading f n ++ rest ≡ row_from (λ v. variable_text v (get_or sizes v 0) (get_or init v 0)) 0 (length sizes) ++ (bytes "goal:" ++ (partial_text (length sizes) (partial_at f (1 + n + n)) ++ (bytes "\n" ++ rest))))
+unfolding heading
+heading_then f n rest =
+    let sizes = take (1 + n - 1) (drop 1 f) in
+    let init = take (1 + n + n - (1 + n)) (drop (1 + n) f) in
+    let names = row_from (λ v. variable_text v (get_or sizes v 0) (get_or init v 0)) 0 (length sizes) in
+    let goal = partial_text (length sizes) (partial_at f (1 + n + n)) in
+    append_assoc names (bytes "goal:" ++ (goal ++ bytes "\n")) rest ∙ ap (λ (more : List ℕ). names ++ (bytes "goal:" ++ more)) (append_assoc goal (bytes "\n") rest)
+
 -- ---- answers
 
 -- The same answer for a result in other words.
 pub answered_as : {whole result : Read (List ℕ)} {answer : Read ℕ} {now : List ℕ} (out : List ℕ) → whole ≡ result → (answer ≡ length_in (length out) result) × (now ≡ written_in out result)
     → (answer ≡ length_in (length out) whole) × (now ≡ written_in out whole)
 answered_as out e h = (h.0 ∙ ap (length_in (length out)) (sym e), h.1 ∙ ap (written_in out) (sym e))
-
--- A text is counted in a buffer of any length, and then written if there is room.
-module _ {result : Read (List ℕ)} {text none after : List ℕ} {needed : ℕ} (h : result ≡ accepted text) (few : length text ≤ largest) (count : Adds text none after 0 needed) where
-  pub counted_short : (out : List ℕ) → length out < needed → (refused 7 needed ≡ length_in (length out) result) × (out ≡ written_in out result)
-  counted_short out l = short_in h out (adds_end few count) l
-
-  pub counted_wrote : {out now : List ℕ} {end : ℕ} → needed ≤ length out → Adds text out now 0 end → (accepted end ≡ length_in (length out) result) × (now ≡ written_in out result)
-  counted_wrote {out} l v = let room : length text ≤ length out = omega (arith, adds_end few count) in wrote_in h room (adds_wrote few room v)
 
 module _ (f : List ℕ) where
   -- The file's refusal, for each operation.

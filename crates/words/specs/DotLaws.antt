@@ -1,6 +1,7 @@
 -- Laws of cost diagrams for Graphviz, from the bytes of a file.
-use Rattle.std.specs.Prelude.{ℕ, zero, suc, ◌+◌, ◌*◌, ◌-◌, ◌≤◌, ◌<◌, ◌≡◌, refl, Bool, true, false, List, [], ◌∷◌, ◌++◌, eqb, length, get_or, take, drop}
-use Rattle.std.proofs.Common.{sym, ap, ap₂, subst, ◌∙◌, arith, eq-eqb, ne_eqb}
+use Rattle.std.specs.Prelude.{ℕ, zero, suc, ◌+◌, ◌*◌, ◌-◌, ◌≤◌, ◌<◌, ◌≡◌, refl, Bool, true, false, ◌||◌, List, [], ◌∷◌, ◌++◌, length, get_or, take, drop}
+use Rattle.std.proofs.Common.{sym, ap, ap₂, ◌∙◌, arith}
+use Rattle.std.specs.List.{list_any, range_with_len}
 use Rattle.taskfile.specs.Task.{Edge, Action}
 use Rattle.taskfile.specs.TaskFile.{edge_bytes}
 use Rattle.taskfile.specs.PartsInPlace.{edge_in, edges_in, node_in, nodes_in}
@@ -10,18 +11,12 @@ use Rattle.text.specs.Text.{decimal}
 use Rattle.text.specs.Append.{bytes}
 use Rattle.text.specs.PrintLaws.{decimal_same, decimal_then}
 use Rattle.words.specs.Dot.{node_name, alike, is_among, also_text, dot_arrow, dot_edge, dot_node, dot_action, dot_text}
-use Rattle.words.specs.Rows.{row_from, AddsTwo, edge_for, node_for}
-use Rattle.words.specs.RowLaws.{edges_row, edges_text, nodes_row}
+use Rattle.text.specs.declared.append.Writer.{Writer}
+use Rattle.text.specs.Writer.{Appends}
+use Rattle.words.specs.Rows.{row_from, edge_for, node_for}
+use Rattle.words.specs.RowLaws.{labelled_as, edges_row, edges_text, nodes_row}
 
 -- ---- edges
-
--- Two edges by their parts, one test after the other.
-module _ (e g : Edge) {target other : ℕ} (t : target ≡ e.target) (o : other ≡ g.target) where
-  pub apart : (target ≡ other → ⊥) → false ≡ alike e g
-  apart h = sym (rw (ne_eqb e.target g.target (λ q. h (t ∙ q ∙ sym o)), alike))
-
-  pub agree : {weight same : ℕ} → weight ≡ e.weight → same ≡ g.weight → target ≡ other → eqb weight same ≡ alike e g
-  agree w s q = ap₂ eqb w s ∙ sym (rw (eq-eqb e.target g.target (sym t ∙ q ∙ o), alike))
 
 -- An edge where one like it came before, and the first of its kind.
 module _ (a i : ℕ) (edges : List Edge) (d : ℕ) (e : Edge) where
@@ -45,31 +40,19 @@ edges_behind f at count zero o rest l e =
 edges_behind f at zero (suc d) o rest l e = absurd (omega arith)
 edges_behind f at (suc count) (suc d) o rest l e = edges_behind f (at + edge_bytes) count d o rest (omega arith) (omega arith)
 
+either : {x y : Bool} (t : Bool) → x ≡ y → (t || x) ≡ elim t [ true ↦ true | false ↦ y ]
+either true e = refl
+either false e = e
+
 -- the node at an offset of the file f, with `count` edges
 module _ (f : List ℕ) (node : ℕ) where
-  -- One like e among the edges from the value j on, up to d.
-  abbrev pub left : Edge → ℕ → ℕ → Bool
-  left e j d = is_among e (edges_in f (node + (1 + edge_bytes * j)) (d - j))
+  -- One like e among the edges from the value j on, so many; and among the first.
+  among_from : (e : Edge) (j o count : ℕ) → o ≡ node + (1 + edge_bytes * j) → list_any (λ j. alike e (edge_for f node j)) (range_with_len j count) ≡ is_among e (edges_in f o count)
+  among_from e j o zero h = refl
+  among_from e j o (suc count) h = rw h (either (alike e (edge_for f node j)) (among_from e (j + 1) (node + (1 + edge_bytes * j) + edge_bytes) count (omega arith)))
 
-  pub left_all : (e : Edge) (d : ℕ) → left e 0 d ≡ is_among e (edges_in f (node + 1) d)
-  left_all e d = let all : d - 0 ≡ d = omega arith in ap (λ (k : ℕ). is_among e (edges_in f (node + 1) k)) all
-
-  module _ (e : Edge) {j d : ℕ} where
-    turn : j < d → left e j d ≡ elim (alike e (edge_for f node j)) [ true ↦ true | false ↦ left e (j + 1) d ]
-    turn l =
-        let long : d - j ≡ suc (d - (j + 1)) = omega arith in
-        let next : node + (1 + edge_bytes * j) + edge_bytes ≡ node + (1 + edge_bytes * (j + 1)) = omega arith in
-        ap (λ (k : ℕ). is_among e (edges_in f (node + (1 + edge_bytes * j)) k)) long
-        ∙ ap (λ (o : ℕ). elim (alike e (edge_for f node j)) [ true ↦ true | false ↦ is_among e (edges_in f o (d - (j + 1))) ]) next
-
-    pub left_here : {same : Bool} → j < d → same ≡ alike e (edge_for f node j) → same ≡ true → left e j d ≡ true
-    left_here l h t = rw (turn l, ← h, t)
-
-    pub left_on : {same : Bool} → j < d → same ≡ alike e (edge_for f node j) → same ≡ false → left e j d ≡ left e (j + 1) d
-    left_on l h t = rw (turn l, ← h, t)
-
-    pub left_none : d ≤ j → left e j d ≡ false
-    left_none l = let none : d - j ≡ 0 = omega arith in rw none
+  pub among_first : (e : Edge) (d : ℕ) → list_any (λ j. alike e (edge_for f node j)) (range_with_len 0 d) ≡ is_among e (edges_in f (node + 1) d)
+  among_first e d = among_from e 0 (node + 1) d (omega arith)
 
   -- The edge for the value d, of `count`.
   module _ (a i : ℕ) {count d : ℕ} (l : d < count) where
@@ -111,10 +94,6 @@ arrows_text f sizes a i node {count = count} h g =
 
 -- ---- nodes
 
--- A node's name, by the same number in other words.
-pub name_as : {xs before now : List ℕ} {at end i j : ℕ} (a : ℕ) → i ≡ j → AddsTwo xs (node_name a i) before now at end → AddsTwo xs (node_name a j) before now at end
-name_as {xs} {before} {now} {at} {end} a e v = subst (λ (i : ℕ). AddsTwo xs (node_name a i) before now at end) e v
-
 -- the file f
 module _ (f sizes offsets : List ℕ) (a : ℕ) {m count : ℕ} (e : m ≡ count) where
   -- The nodes at these offsets.
@@ -122,8 +101,8 @@ module _ (f sizes offsets : List ℕ) (a : ℕ) {m count : ℕ} (e : m ≡ count
   vertices_text = sym (nodes_row f (dot_node a) sizes offsets 1 0 m (omega arith)) ∙ ap (λ (k : ℕ). flat (dot_node a) 1 (nodes_in f sizes offsets 0 k)) e
 
   -- The terminal comes after them.
-  pub terminal_as : {xs before now : List ℕ} {at end : ℕ} → AddsTwo xs (node_name a (1 + m)) before now at end → AddsTwo xs (node_name a (suc (length (nodes_in f sizes offsets 0 count)))) before now at end
-  terminal_as v = name_as a (omega (arith, nodes_long f sizes offsets 0 count)) v
+  pub terminal_as : {before now : Writer} (label : List ℕ) → Appends (label ++ node_name a (1 + m)) before now → Appends (label ++ node_name a (suc (length (nodes_in f sizes offsets 0 count)))) before now
+  terminal_as label v = let same : 1 + m ≡ suc (length (nodes_in f sizes offsets 0 count)) = omega (arith, nodes_long f sizes offsets 0 count) in labelled_as label (ap (node_name a) same) v
 
 -- ---- drawings
 

@@ -3,8 +3,8 @@ pub mod Words
 pub mod Show
 pub mod Dot
 pub mod DescribeFile
-pub mod Answers
 pub mod Rows
+pub mod Puts
 -- Laws.
 pub mod RowLaws
 pub mod WordLaws

@@ -1,44 +1,40 @@
 -- Laws of rows of texts.
 use Rattle.std.specs.Prelude.{ℕ, zero, suc, ◌+◌, ◌*◌, ◌-◌, ◌≤◌, ◌<◌, min, ◌≡◌, refl, List, [], ◌∷◌, ◌++◌, length, get_or, take, drop}
-use Rattle.std.proofs.Common.{sym, ap, ap₂, subst, ◌∙◌, append_assoc, arith, add-one}
+use Rattle.std.proofs.Common.{sym, ap, ap₂, ◌∙◌, arith, add-one}
 use Rattle.taskfile.specs.Task.{Edge, Node, Action}
 use Rattle.taskfile.specs.TaskFile.{edge_bytes}
 use Rattle.taskfile.specs.Row.{own_from}
 use Rattle.taskfile.specs.PartsInPlace.{edge_in, edges_in, node_in, nodes_in, action_in, actions_in}
 use Rattle.taskfile.specs.MoveInPlaceLaws.{own_nodes}
 use Rattle.compilation.specs.Compile.{flat}
-use Rattle.text.specs.Text.{decimal}
-use Rattle.text.specs.Append.{Adds}
-use Rattle.text.specs.AppendLaws.{adds_then, adds_as, Adding, adding_start, adding_more, adding_end}
-use Rattle.words.specs.Rows.{row_from, AddsTwo, edge_for, node_for, action_for}
+use Rattle.text.specs.declared.append.Writer.{Writer}
+use Rattle.text.specs.Writer.{Appends}
+use Rattle.text.specs.WriterLaws.{appends_as, Adding, adding_start, adding_more, adding_end}
+use Rattle.words.specs.Rows.{row_from, edge_for, node_for, action_for}
 
--- Two texts and then a third.
-pub two_then : {xs ys zs before now last : List ℕ} {at k end : ℕ} → AddsTwo xs ys before now at k → Adds zs now last k end → Adds (xs ++ (ys ++ zs)) before last at end
-two_then {xs} {ys} {zs} v w = adds_as (append_assoc xs ys zs) (adds_then v.adds w)
-
--- The same number in other words.
-pub number_as : {xs before now : List ℕ} {at end n m : ℕ} → n ≡ m → AddsTwo xs (decimal n) before now at end → AddsTwo xs (decimal m) before now at end
-number_as {xs} {before} {now} {at} {end} e v = subst (λ (k : ℕ). AddsTwo xs (decimal k) before now at end) e v
+-- The same text in other words, after a label.
+pub labelled_as : {xs ys : List ℕ} {before now : Writer} (label : List ℕ) → xs ≡ ys → Appends (label ++ xs) before now → Appends (label ++ ys) before now
+labelled_as label e v = appends_as (ap (λ (text : List ℕ). label ++ text) e) v
 
 -- ---- a row that is written one text after the other
 
 -- the texts of the numbers before i are written, those from i on, up to `end`, are left
-pub record Row (text : ℕ → List ℕ) (whole before now : List ℕ) (from at i end : ℕ) : Type 0 where
-  pub adding : Adding whole (row_from text i (end - i)) before now from at
+pub record Row (text : ℕ → List ℕ) (whole : List ℕ) (before now : Writer) (i end : ℕ) : Type 0 where
+  pub adding : Adding whole (row_from text i (end - i)) before now
 
 -- At first all are left.
-pub row_start : (text : ℕ → List ℕ) (first end count : ℕ) (out : List ℕ) (at : ℕ) → count ≡ end - first → Row text (row_from text first count) out out at at first end
-row_start text first end count out at e = record { adding = rw e (adding_start (row_from text first (end - first)) out at) }
+pub row_start : (text : ℕ → List ℕ) (first end count : ℕ) (out : Writer) → count ≡ end - first → Row text (row_from text first count) out out first end
+row_start text first end count out e = record { adding = rw e (adding_start (row_from text first (end - first)) out) }
 
-module _ {text : ℕ → List ℕ} {whole before now : List ℕ} {from at i end : ℕ} (g : Row text whole before now from at i end) where
+module _ {text : ℕ → List ℕ} {whole : List ℕ} {before now : Writer} {i end : ℕ} (g : Row text whole before now i end) where
   -- Then the text of i is written.
-  pub row_more : {last : List ℕ} {k : ℕ} → i < end → Adds (text i) now last at k → Row text whole before last from k (i + 1) end
+  pub row_more : {last : Writer} → i < end → Appends (text i) now last → Row text whole before last (i + 1) end
   row_more l v = record {
     adding = adding_more (text i) (row_from text (i + 1) (end - (i + 1))) g.adding (let e : end - i ≡ suc (end - (i + 1)) = omega arith in rw (e, add-one i)) v;
   }
 
   -- At last none is left.
-  pub row_end : end ≤ i → Adds whole before now from at
+  pub row_end : end ≤ i → Appends whole before now
   row_end l = adding_end g.adding (let e : end - i ≡ 0 = omega arith in rw e)
 
 -- ---- rows of parts in place

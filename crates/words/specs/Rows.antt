@@ -5,7 +5,7 @@ use Rattle.taskfile.specs.Task.{Edge, Node, Action}
 use Rattle.taskfile.specs.TaskFile.{edge_bytes}
 use Rattle.taskfile.specs.Row.{own_from}
 use Rattle.taskfile.specs.PartsInPlace.{edge_in, node_in, action_in}
-use Rattle.text.specs.Append.{bytes, Adds}
+use Rattle.text.specs.Append.{bytes}
 use Rattle.words.specs.Words.{partial_text}
 use Rattle.words.specs.Show.{variable_text, action_text}
 use Rattle.words.specs.Dot.{dot_action}
@@ -14,10 +14,6 @@ use Rattle.words.specs.Dot.{dot_action}
 abbrev pub row_from : {X : Type 0} → (ℕ → List X) → ℕ → ℕ → List X
 row_from f i zero = []
 row_from f i (suc count) = f i ++ row_from f (suc i) count
-
--- two texts were written, one straight after the other
-pub record AddsTwo (xs ys before now : List ℕ) (at end : ℕ) : Type 0 where
-  pub adds : Adds (xs ++ ys) before now at end
 
 -- the file f
 module _ (f : List ℕ) where
@@ -32,6 +28,13 @@ module _ (f : List ℕ) where
   -- action number a, by the row of the index
   abbrev pub action_for : List ℕ → List ℕ → ℕ → Action
   action_for sizes row a = action_in f sizes (get_or row a 0) (drop (own_from row a) row)
+
+  -- so many variables and the goal in words
+  unfoldable pub heading : ℕ → List ℕ
+  heading n =
+      let sizes = take (1 + n - 1) (drop 1 f) in
+      let init = take (1 + n + n - (1 + n)) (drop (1 + n) f) in
+      row_from (λ v. variable_text v (get_or sizes v 0) (get_or init v 0)) 0 (length sizes) ++ (bytes "goal:" ++ (partial_text (length sizes) (partial_at f (1 + n + n)) ++ bytes "\n"))
 
   -- the task in words, for so many variables and actions
   unfoldable pub showing : ℕ → ℕ → List ℕ → List ℕ

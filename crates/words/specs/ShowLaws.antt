@@ -7,8 +7,10 @@ use Rattle.taskfile.specs.PartsInPlace.{nodes_in}
 use Rattle.taskfile.specs.PartsInPlaceLaws.{nodes_long}
 use Rattle.compilation.specs.Compile.{flat}
 use Rattle.text.specs.Text.{decimal}
-use Rattle.text.specs.Append.{bytes, Adds}
-use Rattle.text.specs.AppendLaws.{adds_as}
+use Rattle.text.specs.declared.append.Writer.{Writer}
+use Rattle.text.specs.Append.{bytes}
+use Rattle.text.specs.Writer.{Appends}
+use Rattle.text.specs.WriterLaws.{appends_as}
 use Rattle.words.specs.Show.{target_text, edge_text, node_text, cost_text}
 use Rattle.words.specs.Rows.{row_from, node_for}
 use Rattle.words.specs.RowLaws.{nodes_row}
@@ -23,9 +25,9 @@ unfolding target_text
 target_end m target l = rw (lt-leb target m l, target_text)
 
 -- An edge by its parts.
-pub edge_as : {before now : List ℕ} {at end target weight : ℕ} (m d : ℕ) (e : Edge) → target ≡ e.target → weight ≡ e.weight
-    → Adds (edge_text m d (record { target = target; weight = weight })) before now at end → Adds (edge_text m d e) before now at end
-edge_as m d e t w v = adds_as (ap₂ (λ (t w : ℕ). edge_text m d (record { target = t; weight = w })) t w) v
+pub edge_as : {before now : Writer} {target weight : ℕ} (m d : ℕ) (e : Edge) → target ≡ e.target → weight ≡ e.weight
+    → Appends (edge_text m d (record { target = target; weight = weight })) before now → Appends (edge_text m d e) before now
+edge_as m d e t w v = appends_as (ap₂ (λ (t w : ℕ). edge_text m d (record { target = t; weight = w })) t w) v
 
 -- the file f
 module _ (f sizes : List ℕ) where
@@ -39,6 +41,6 @@ module _ (f sizes : List ℕ) where
   first_target offsets m = ap (λ (k : ℕ). target_text k 1) (sym (nodes_long f sizes offsets 0 m))
 
   -- The cost of an action by its parts.
-  pub cost_as : {before now : List ℕ} {at end w m incoming count : ℕ} (offsets : List ℕ) → w ≡ incoming → m ≡ count
-      → Adds (cost_text w (nodes_in f sizes offsets 0 m)) before now at end → Adds (cost_text incoming (nodes_in f sizes offsets 0 count)) before now at end
-  cost_as offsets w m v = adds_as (ap₂ (λ (w m : ℕ). cost_text w (nodes_in f sizes offsets 0 m)) w m) v
+  pub cost_as : {before now : Writer} {w m incoming count : ℕ} (offsets : List ℕ) → w ≡ incoming → m ≡ count
+      → Appends (cost_text w (nodes_in f sizes offsets 0 m)) before now → Appends (cost_text incoming (nodes_in f sizes offsets 0 count)) before now
+  cost_as offsets w m v = appends_as (ap₂ (λ (w m : ℕ). cost_text w (nodes_in f sizes offsets 0 m)) w m) v

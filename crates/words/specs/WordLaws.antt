@@ -8,8 +8,10 @@ use Rattle.facts.specs.Partial.{Partial, above, partial_at, standing_at}
 use Rattle.facts.specs.Fields.{read_number}
 use Rattle.facts.specs.BitsLaws.{odd_bit, odd_half, first_even, first_odd, first_cut, above_even, above_odd, cut_values}
 use Rattle.facts.specs.InPlaceLaws.{standing_read, empty_read}
-use Rattle.text.specs.Append.{bytes, Adds}
-use Rattle.text.specs.AppendLaws.{Adding, adding_start, adding_more, adding_end}
+use Rattle.text.specs.declared.append.Writer.{Writer}
+use Rattle.text.specs.Append.{bytes}
+use Rattle.text.specs.Writer.{Appends}
+use Rattle.text.specs.WriterLaws.{Adding, adding_start, adding_more, adding_end}
 use Rattle.words.specs.Words.{fact_text, bit_text, bits_text, facts_text, some_text, partial_text}
 
 -- the file f
@@ -71,17 +73,17 @@ module _ (f : List ℕ) {text : ℕ → ℕ → List ℕ → List ℕ} (bitwise 
       go false t = bits_cut n v k at (ltb-false at (length f) t)
 
 -- of n variables those from v on are left, whose map is m and whose values begin at `place`
-pub record BitsLeft (f : List ℕ) (text : ℕ → ℕ → List ℕ → List ℕ) (whole before now : List ℕ) (from at n v m place : ℕ) : Type 0 where
-  pub adding : Adding whole (bits_text text (n - v) v (standing_at f m place)) before now from at
+pub record BitsLeft (f : List ℕ) (text : ℕ → ℕ → List ℕ → List ℕ) (whole : List ℕ) (before now : Writer) (n v m place : ℕ) : Type 0 where
+  pub adding : Adding whole (bits_text text (n - v) v (standing_at f m place)) before now
 
 -- At first all are left.
-pub bits_start : (f : List ℕ) (text : ℕ → ℕ → List ℕ → List ℕ) (n m place : ℕ) (out : List ℕ) (at : ℕ) → BitsLeft f text (bits_text text n 0 (standing_at f m place)) out out at at n 0 m place
-bits_start f text n m place out at = let e : n - 0 ≡ n = omega arith in record { adding = rw e (adding_start (bits_text text n 0 (standing_at f m place)) out at) }
+pub bits_start : (f : List ℕ) (text : ℕ → ℕ → List ℕ → List ℕ) (n m place : ℕ) (out : Writer) → BitsLeft f text (bits_text text n 0 (standing_at f m place)) out out n 0 m place
+bits_start f text n m place out = let e : n - 0 ≡ n = omega arith in record { adding = rw e (adding_start (bits_text text n 0 (standing_at f m place)) out) }
 
-module _ {f : List ℕ} {text : ℕ → ℕ → List ℕ → List ℕ} {whole before now : List ℕ} {from at n v m place : ℕ} (g : BitsLeft f text whole before now from at n v m place) where
+module _ {f : List ℕ} {text : ℕ → ℕ → List ℕ → List ℕ} {whole : List ℕ} {before now : Writer} {n v m place : ℕ} (g : BitsLeft f text whole before now n v m place) where
   -- Then the text of variable v is written.
-  pub bits_more : {last : List ℕ} {end k b next : ℕ} → Bitwise text → b ≡ m % 2 → k ≡ m / 2 → next ≡ place + b → v < n → Adds (text v b (drop place f)) now last at end
-      → BitsLeft f text whole before last from end n (v + 1) k next
+  pub bits_more : {last : Writer} {k b next : ℕ} → Bitwise text → b ≡ m % 2 → k ≡ m / 2 → next ≡ place + b → v < n → Appends (text v b (drop place f)) now last
+      → BitsLeft f text whole before last n (v + 1) k next
   bits_more {k = k} {b = b} {next = next} bitwise e h q l w = record {
     adding = adding_more (text v b (drop place f)) (bits_text text (n - (v + 1)) (v + 1) (standing_at f k next)) g.adding
         (let s : n - v ≡ suc (n - (v + 1)) = omega arith in
@@ -90,7 +92,7 @@ module _ {f : List ℕ} {text : ℕ → ℕ → List ℕ → List ℕ} {whole be
   }
 
   -- At last none is left.
-  pub bits_end : n ≤ v → Adds whole before now from at
+  pub bits_end : n ≤ v → Appends whole before now
   bits_end l = adding_end g.adding (let e : n - v ≡ 0 = omega arith in rw e)
 
 -- ---- partial states of the file f

@@ -1,6 +1,6 @@
--- `report::put_around` meets its contract: one part after the other. Assumes nothing.
-use Rattle.text.specs.AppendLaws.{adds_then}
+-- `report::put_around` meets its contract: one part straight after the other.
+use Rattle.text.specs.WriterLaws.{appends_then}
 use Rattle.report.proofs.put_around.Goals as goal
 
 pub returns : goal.returns
-returns c = adds_then c.append-first.ensures (adds_then c.append_number-middle.ensures c.append.ensures)
+returns c = appends_then c.append.ensures (appends_then c.append_number.ensures c.append-2.ensures)

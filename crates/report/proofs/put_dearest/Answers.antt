@@ -1,6 +1,6 @@
--- `report::put_dearest` meets its contract: the cost, and then the state. Assumes nothing.
-use Rattle.text.specs.AppendLaws.{adds_then}
+-- `report::put_dearest` meets its contract: one part straight after the other.
+use Rattle.text.specs.WriterLaws.{appends_then}
 use Rattle.report.proofs.put_dearest.Goals as goal
 
 pub returns : goal.returns
-returns c = adds_then c.put_count-first.ensures (adds_then c.append-second.ensures (adds_then c.put_values-third.ensures c.append.ensures))
+returns c = appends_then c.put_count.ensures (appends_then c.append.ensures (appends_then c.put_values.ensures c.append-2.ensures))

@@ -1,6 +1,6 @@
--- `report::put_fault` meets its contract: the name, and then what is wrong. Assumes nothing.
-use Rattle.text.specs.AppendLaws.{adds_then}
+-- `report::put_fault` meets its contract: one part straight after the other.
+use Rattle.text.specs.WriterLaws.{appends_then}
 use Rattle.report.proofs.put_fault.Goals as goal
 
 pub returns : goal.returns
-returns c = adds_then c.append-first.ensures c.put_why.ensures
+returns c = appends_then c.append.ensures c.put_why.ensures

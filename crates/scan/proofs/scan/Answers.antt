@@ -2,5 +2,5 @@
 use Rattle.text.specs.TokenLaws.{counting_start}
 use Rattle.scan.proofs.scan.Goals as goal
 
-pub loop-at-init : goal.loop-at-init
-loop-at-init c = counting_start _ _
+pub loop-end-init : goal.loop-end-init
+loop-end-init c = counting_start _ _

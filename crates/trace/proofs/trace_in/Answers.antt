@@ -1,6 +1,6 @@
--- `trace::trace_in` meets its contract: the limit, the numbers that no step has, and then the trace. Assumes nothing.
-use mathlib.Core.Path.{sym, ap, ◌∙◌}
-use Rattle.facts.specs.Answers.{checked_answer}
+-- `trace::trace_in` meets its contract: the limit, the numbers that no step has, and then the trace.
+use mathlib.Core.Path.{sym, ◌∙◌}
+use Rattle.facts.specs.AnswerLaws.{handed}
 use Rattle.facts.specs.BytesLaws.{bytes_each}
 use Rattle.facts.specs.WriteLaws.{refused_in}
 use Rattle.taskfile.specs.BlankLaws.{file_bytes}
@@ -23,27 +23,26 @@ overflow_add-last c = omega (arith, head_fits _ c.requires)
 pub slice_bounds-sizes-end : goal.slice_bounds-sizes-end
 slice_bounds-sizes-end c = omega (arith, head_fits _ c.requires)
 
-pub trace_compiled-requires : goal.trace_compiled-requires
-trace_compiled-requires c =
-    let f = c.args.file.now in (
-      c.requires,
-      record {
-        bytes = file_bytes f (bytes_each f (λ i. (c.type_inv.file i).fits));
-        t = (there f c.requires).task;
-        task = (there f c.requires).reads;
-        same = names_are f c.requires (sizes_in_lem f c.requires);
-        few = c.if-list-gt-MAX_LIST.false;
-        u = tt;
-        known = sym c.check_steps.ensures ∙ ap checked_answer c.in-Accepted.is;
-      },
-    )
-
-pub returns-in-Refused-clause-result_value : goal.returns-in-Refused-clause-result_value
-returns-in-Refused-clause-result_value c =
+pub returns-in_err-check_steps-clause-result_value : goal.returns-in_err-check_steps-clause-result_value
+returns-in_err-check_steps-clause-result_value c =
     let f = c.args.file.now in
-    (refused_in c.args.out.now (trace_missing c.args.states f c.args.list.now c.requires c.if-list-gt-MAX_LIST.false (names_are f c.requires (sizes_in_lem f c.requires)) (sym c.check_steps.ensures ∙ ap checked_answer c.in-Refused.is))).0
+    handed _ _ c.from_residual.ensures.1
+    ∙ (refused_in c.args.out.now (trace_missing c.args.states f c.args.list.now c.requires c.if-list-gt-MAX_LIST.false (names_are f c.requires (sizes_in_lem f c.requires)) (sym c.in_err-check_steps.ensures))).0
 
-pub returns-in-Refused-clause-out_after : goal.returns-in-Refused-clause-out_after
-returns-in-Refused-clause-out_after c =
+pub returns-in_err-check_steps-clause-out_after : goal.returns-in_err-check_steps-clause-out_after
+returns-in_err-check_steps-clause-out_after c =
     let f = c.args.file.now in
-    (refused_in c.args.out.now (trace_missing c.args.states f c.args.list.now c.requires c.if-list-gt-MAX_LIST.false (names_are f c.requires (sizes_in_lem f c.requires)) (sym c.check_steps.ensures ∙ ap checked_answer c.in-Refused.is))).1
+    (refused_in c.args.out.now (trace_missing c.args.states f c.args.list.now c.requires c.if-list-gt-MAX_LIST.false (names_are f c.requires (sizes_in_lem f c.requires)) (sym c.in_err-check_steps.ensures))).1
+
+pub trace_compiled-requires-clause-stated : goal.trace_compiled-requires-clause-stated
+trace_compiled-requires-clause-stated c =
+    let f = c.args.file.now in
+    record {
+      bytes = file_bytes f (bytes_each f (λ i. (c.type_inv.file i).fits));
+      t = (there f c.requires).task;
+      task = (there f c.requires).reads;
+      same = names_are f c.requires (sizes_in_lem f c.requires);
+      few = c.if-list-gt-MAX_LIST.false;
+      u = tt;
+      known = sym c.in_ok-check_steps.ensures;
+    }

@@ -1,6 +1,6 @@
--- `arguments::words::put_hint` meets its contract: one part straight after the other. Assumes nothing.
-use Rattle.text.specs.AppendLaws.{adds_then}
+-- `arguments::words::put_hint` meets its contract: one part straight after the other.
+use Rattle.text.specs.WriterLaws.{appends_then}
 use Rattle.arguments.proofs.words.put_hint.Goals as goal
 
 pub returns : goal.returns
-returns c = adds_then c.append-first.ensures (adds_then c.append-accepted.ensures (adds_then c.put_kind-kind.ensures (adds_then c.append-file.ensures (adds_then c.put_advice-advice.ensures c.append.ensures))))
+returns c = appends_then c.append.ensures (appends_then c.append-2.ensures (appends_then c.put_kind.ensures (appends_then c.append-3.ensures (appends_then c.put_advice.ensures c.append-4.ensures))))

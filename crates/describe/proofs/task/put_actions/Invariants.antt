@@ -1,4 +1,4 @@
-use Prim.Native.Nat.{ℕ, ◌-◌}
+use Prim.Native.Nat.{ℕ}
 use mathlib.Core.List.{List}
 use lib.ListN.{length}
 use Rattle.words.specs.Show.{action_text}
@@ -11,7 +11,4 @@ abbrev pub text : List ℕ → List ℕ → List ℕ → ℕ → List ℕ
 text file sizes row a = action_text (length sizes) a (action_for file sizes row a)
 
 abbrev pub invariant-loop-a : goal.invariant-loop-a
-invariant-loop-a l = Row (text l.file l.sizes l.row) (row_from (text l.file l.sizes l.row) 0 l.count) l.initial.out l.out l.at l.end l.a l.count
-
-abbrev pub decreases-loop-a : goal.decreases-loop-a
-decreases-loop-a l = l.count - l.a
+invariant-loop-a l = Row (text l.file l.sizes l.row) (row_from (text l.file l.sizes l.row) 0 l.count) l.initial.out l.out l.a l.count

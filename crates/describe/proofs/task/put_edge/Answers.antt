@@ -1,7 +1,6 @@
--- `describe::task::put_edge` meets its contract: one part straight after the other. Assumes nothing.
-use Rattle.text.specs.AppendLaws.{adds_then}
-use Rattle.words.specs.RowLaws.{two_then}
+-- `describe::task::put_edge` meets its contract: one part straight after the other.
+use Rattle.text.specs.WriterLaws.{appends_then}
 use Rattle.describe.proofs.task.put_edge.Goals as goal
 
 pub returns : goal.returns
-returns c = two_then c.put_numbered-value.ensures (two_then c.put_numbered-adds.ensures (adds_then c.append-then.ensures (adds_then c.put_target-leads.ensures c.append.ensures)))
+returns c = appends_then c.put_numbered.ensures (appends_then c.put_numbered-2.ensures (appends_then c.append.ensures (appends_then c.put_target.ensures c.append_byte.ensures)))

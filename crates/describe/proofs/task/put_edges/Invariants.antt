@@ -1,4 +1,4 @@
-use Prim.Native.Nat.{ℕ, ◌-◌}
+use Prim.Native.Nat.{ℕ}
 use mathlib.Core.List.{List}
 use Rattle.words.specs.Show.{edge_text}
 use Rattle.words.specs.Rows.{row_from, edge_for}
@@ -10,7 +10,4 @@ abbrev pub text : List ℕ → ℕ → ℕ → ℕ → List ℕ
 text file node m d = edge_text m d (edge_for file node d)
 
 abbrev pub invariant-loop-d : goal.invariant-loop-d
-invariant-loop-d l = Row (text l.file l.node l.m) (row_from (text l.file l.node l.m) 0 l.count) l.initial.out l.out l.at l.end l.d l.count
-
-abbrev pub decreases-loop-d : goal.decreases-loop-d
-decreases-loop-d l = l.count - l.d
+invariant-loop-d l = Row (text l.file l.node l.m) (row_from (text l.file l.node l.m) 0 l.count) l.initial.out l.out l.d l.count

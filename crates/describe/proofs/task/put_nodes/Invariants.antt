@@ -1,4 +1,4 @@
-use Prim.Native.Nat.{ℕ, ◌+◌, ◌-◌}
+use Prim.Native.Nat.{ℕ, ◌+◌}
 use mathlib.Core.List.{List}
 use Rattle.words.specs.Show.{node_text}
 use Rattle.words.specs.Rows.{row_from, node_for}
@@ -10,7 +10,4 @@ abbrev pub text : List ℕ → List ℕ → List ℕ → ℕ → ℕ → List �
 text file sizes nodes m j = node_text m (1 + j) (node_for file sizes nodes j)
 
 abbrev pub invariant-loop-j : goal.invariant-loop-j
-invariant-loop-j l = Row (text l.file l.sizes l.nodes l.m) (row_from (text l.file l.sizes l.nodes l.m) 0 l.m) l.initial.out l.out l.at l.end l.j l.m
-
-abbrev pub decreases-loop-j : goal.decreases-loop-j
-decreases-loop-j l = l.m - l.j
+invariant-loop-j l = Row (text l.file l.sizes l.nodes l.m) (row_from (text l.file l.sizes l.nodes l.m) 0 l.m) l.initial.out l.out l.j l.m

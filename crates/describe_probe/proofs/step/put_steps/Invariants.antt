@@ -1,4 +1,4 @@
-use Prim.Native.Nat.{ℕ, ◌-◌}
+use Prim.Native.Nat.{ℕ}
 use mathlib.Core.List.{List}
 use lib.ListN.{length, get_or}
 use Rattle.probefile.specs.InPlace.{step_at}
@@ -12,7 +12,4 @@ abbrev pub text : List ℕ → List ℕ → List ℕ → ℕ → List ℕ
 text file sizes offsets k = step_text (length sizes) k (step_at file (get_or offsets k 0))
 
 abbrev pub invariant-loop-k : goal.invariant-loop-k
-invariant-loop-k l = Row (text l.file l.sizes l.offsets) (row_from (text l.file l.sizes l.offsets) 0 (length l.offsets)) l.initial.out l.out l.at l.end l.k (length l.offsets)
-
-abbrev pub decreases-loop-k : goal.decreases-loop-k
-decreases-loop-k l = length l.offsets - l.k
+invariant-loop-k l = Row (text l.file l.sizes l.offsets) (row_from (text l.file l.sizes l.offsets) 0 (length l.offsets)) l.initial.out l.out l.k (length l.offsets)

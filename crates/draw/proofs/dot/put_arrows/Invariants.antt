@@ -1,4 +1,4 @@
-use Prim.Native.Nat.{ℕ, ◌+◌, ◌-◌}
+use Prim.Native.Nat.{ℕ, ◌+◌}
 use mathlib.Core.List.{List}
 use Rattle.taskfile.specs.PartsInPlace.{edges_in}
 use Rattle.words.specs.Dot.{dot_edge}
@@ -11,7 +11,4 @@ abbrev pub text : List ℕ → ℕ → ℕ → ℕ → ℕ → ℕ → List ℕ
 text file node count a i d = dot_edge a i (edges_in file (node + 1) count) d (edge_for file node d)
 
 abbrev pub invariant-loop-d : goal.invariant-loop-d
-invariant-loop-d l = Row (text l.file l.node l.count l.a l.i) (row_from (text l.file l.node l.count l.a l.i) 0 l.count) l.initial.out l.out l.at l.end l.d l.count
-
-abbrev pub decreases-loop-d : goal.decreases-loop-d
-decreases-loop-d l = l.count - l.d
+invariant-loop-d l = Row (text l.file l.node l.count l.a l.i) (row_from (text l.file l.node l.count l.a l.i) 0 l.count) l.initial.out l.out l.d l.count

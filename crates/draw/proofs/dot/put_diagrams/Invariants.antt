@@ -10,7 +10,4 @@ abbrev pub text : List ℕ → List ℕ → List ℕ → ℕ → List ℕ
 text file sizes row a = dot_action a (action_for file sizes row a)
 
 abbrev pub invariant-loop-a : goal.invariant-loop-a
-invariant-loop-a l = Row (text l.file l.sizes l.row) (row_from (text l.file l.sizes l.row) l.from (l.end - l.from)) l.initial.out l.out l.at l.past l.a l.end
-
-abbrev pub decreases-loop-a : goal.decreases-loop-a
-decreases-loop-a l = l.end - l.a
+invariant-loop-a l = Row (text l.file l.sizes l.row) (row_from (text l.file l.sizes l.row) l.from (l.end - l.from)) l.initial.out l.out l.a l.end

@@ -1,8 +1,8 @@
--- `draw::dot::put_drawing` meets its contract: what opens it, the diagrams in place, what closes it. Assumes nothing.
-use Rattle.text.specs.AppendLaws.{adds_then}
+-- `draw::dot::put_drawing` meets its contract: what opens it, the diagrams in place, what closes it.
+use Rattle.text.specs.WriterLaws.{appends_then}
 use Rattle.words.specs.Rows.{drawing}
 use Rattle.draw.proofs.dot.put_drawing.Goals as goal
 
 pub returns : goal.returns
 unfolding drawing
-returns c = adds_then c.append-opened.ensures (adds_then c.put_diagrams-drawn.ensures c.append.ensures)
+returns c = appends_then c.append.ensures (appends_then c.put_diagrams.ensures c.append-2.ensures)

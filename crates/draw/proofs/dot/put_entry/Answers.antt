@@ -1,6 +1,6 @@
--- `draw::dot::put_entry` meets its contract: one part straight after the other. Assumes nothing.
-use Rattle.words.specs.RowLaws.{two_then}
+-- `draw::dot::put_entry` meets its contract: one part straight after the other.
+use Rattle.text.specs.WriterLaws.{appends_then}
 use Rattle.draw.proofs.dot.put_entry.Goals as goal
 
 pub returns : goal.returns
-returns c = two_then c.put_numbered-name.ensures (two_then c.put_numbered-label.ensures (two_then c.put_numbered-from.ensures (two_then c.put_name-to.ensures (two_then c.put_numbered-weight.ensures c.append.ensures))))
+returns c = appends_then c.put_numbered.ensures (appends_then c.put_numbered-2.ensures (appends_then c.put_numbered-3.ensures (appends_then c.put_name.ensures (appends_then c.put_numbered-4.ensures c.append.ensures))))

@@ -10,7 +10,4 @@ abbrev pub text : List ℕ → ℕ → ℕ → ℕ → List ℕ
 text file node d j = also_text (edge_for file node d) j (edge_for file node j)
 
 abbrev pub invariant-loop-j : goal.invariant-loop-j
-invariant-loop-j l = Row (text l.file l.node l.d) (row_from (text l.file l.node l.d) (l.d + 1) (l.count - (l.d + 1))) l.initial.out l.out l.at l.end l.j l.count
-
-abbrev pub decreases-loop-j : goal.decreases-loop-j
-decreases-loop-j l = l.count - l.j
+invariant-loop-j l = Row (text l.file l.node l.d) (row_from (text l.file l.node l.d) (l.d + 1) (l.count - (l.d + 1))) l.initial.out l.out l.j l.count

@@ -1,7 +1,10 @@
--- `failure::sentence::put_entry` meets its contract: one part straight after the other. Assumes nothing.
-use Rattle.text.specs.AppendLaws.{adds_then}
-use Rattle.words.specs.RowLaws.{two_then}
+-- `failure::sentence::put_entry` meets its contract: one part straight after the other.
+use Rattle.std.proofs.Common.{append_assoc}
+use Rattle.text.specs.Text.{decimal}
+use Rattle.text.specs.WriterLaws.{appends_then, appends_as}
 use Rattle.failure.proofs.sentence.put_entry.Goals as goal
 
 pub returns : goal.returns
-returns c = two_then c.put_numbered-entry.ensures (adds_then c.append-is.ensures (two_then c.put_numbered-name.ensures (adds_then c.append-head.ensures c.put_failures.ensures)))
+returns c =
+    appends_then c.put_numbered.ensures
+    (appends_then c.append.ensures (appends_as (append_assoc c.args.label.now (decimal c.args.stop.number) _) (appends_then c.put_numbered-2.ensures (appends_then c.append-2.ensures c.put_failures.ensures))))

@@ -1,4 +1,4 @@
-use Prim.Native.Nat.{ℕ, ◌+◌, ◌-◌, ◌≤◌}
+use Prim.Native.Nat.{ℕ, ◌+◌, ◌≤◌}
 use mathlib.Core.List.{List}
 use lib.ListN.{length, get_or}
 use Rattle.facts.specs.Partial.{standing_at}
@@ -11,7 +11,4 @@ abbrev pub text : List ℕ → ℕ → ℕ → List ℕ → List ℕ
 text state v = failed_text (get_or state v 0) v
 
 abbrev pub invariant-loop-v : goal.invariant-loop-v
-invariant-loop-v l = (l.v ≤ length l.state) × (l.value ≤ l.place + l.v) × BitsLeft l.file (text l.state) (failures_text (standing_at l.file l.map l.place) l.state) l.initial.out l.out l.at l.end (length l.state) l.v l.rest l.value
-
-abbrev pub decreases-loop-v : goal.decreases-loop-v
-decreases-loop-v l = length l.state - l.v
+invariant-loop-v l = (l.value ≤ l.place + l.v) × BitsLeft l.file (text l.state) (failures_text (standing_at l.file l.map l.place) l.state) l.initial.out l.out (length l.state) l.v l.rest l.value

@@ -1,32 +1,27 @@
--- `scan::read::number` meets its contract: the first number is the only one if there is one. Assumes nothing.
-use mathlib.Core.Path.{◌≡◌, sym, ap, ◌∙◌}
-use Rattle.text.specs.Text.{with_parsed, numbers_of, only_of}
-use Rattle.text.specs.Answers.{found_answer, token_answer}
-use Rattle.text.specs.TokenLaws.{from_start, stray_of, large_of, only_one, only_more}
+-- `scan::read::number` meets its contract: the first number is the only one if there is one.
+use mathlib.Core.Path.{sym, ap, ◌∙◌}
+use Rattle.std.specs.Prelude.{ℕ, Option, Ok}
+use Rattle.text.specs.Text.{with_parsed, only_of}
+use Rattle.text.specs.Answers.{token_answer}
+use Rattle.text.specs.TokenLaws.{from_start, wrong_on, with_wrong, wrong_of, only_one, only_more}
 use Rattle.scan.proofs.read.number.Goals as goal
-use Rattle.scan.proofs.read.number.Goals.{After-next_number}
 
--- the numbers of the text, by the first of them
-first : (c : goal.After-next_number) → numbers_of c.args.most c.args.text.now ≡ token_answer c.args.most c.args.text.now c.next_number.result
-first c = from_start _ _ _ c.next_number.ensures.text_value
+pub returns-in_err-number : goal.returns-in_err-number
+returns-in_err-number c =
+    wrong_on _ _ c.from_residual.ensures.1 ∙ sym (ap (with_parsed only_of) (from_start _ _ _ c.in_err-number.ensures.text_value) ∙ with_wrong only_of _)
 
-pub returns-then-k-eq1 : goal.returns-then-k-eq1
-returns-then-k-eq1 c = sym (only_one _ _ (first (goal.at.returns-then-k-eq1 c).After-next_number) c.in-Number.is (sym c.scan.ensures ∙ ap found_answer c.in-Count.is) c.if-k-eq1.true)
+pub returns-in_default : goal.returns-in_default
+returns-in_default c = sym (ap (with_parsed only_of) (from_start _ _ _ (c.in_ok-number.ensures.text_value ∙ ap (λ (o : Option (ℕ × ℕ)). token_answer c.args.most c.args.text.now (Ok o)) c.in_default.is)))
 
-pub returns-in-End : goal.returns-in-End
-returns-in-End c = sym (ap (with_parsed only_of) (first (goal.at.returns-in-End c).After-next_number ∙ ap (token_answer _ _) c.in-End.is))
+pub returns-in_err-one : goal.returns-in_err-one
+returns-in_err-one c =
+    wrong_on _ _ c.from_residual-in_err-one.ensures.1 ∙ sym (ap (with_parsed only_of) (wrong_of _ _ _ (sym c.in_err-one.ensures)) ∙ with_wrong only_of _)
 
-pub returns-in-Stray : goal.returns-in-Stray
-returns-in-Stray c = sym (ap (with_parsed only_of) (first (goal.at.returns-in-Stray c).After-next_number ∙ ap (token_answer _ _) c.in-Stray.is))
+pub returns-then-one : goal.returns-then-one
+returns-then-one c =
+    let k = c.in-Some.is in let e = c.in-Some.number-is in
+    sym (only_one _ _ _ _ (from_start _ _ _ (c.in_ok-number.ensures.text_value ∙ ap (λ (o : Option (ℕ × ℕ)). token_answer c.args.most c.args.text.now (Ok o)) c.in-Some.is)) (sym c.in_ok-one.ensures) c.if-one.true)
 
-pub returns-in-Large : goal.returns-in-Large
-returns-in-Large c = sym (ap (with_parsed only_of) (first (goal.at.returns-in-Large c).After-next_number ∙ ap (token_answer _ _) c.in-Large.is))
-
-pub returns-in-Stray-scan : goal.returns-in-Stray-scan
-returns-in-Stray-scan c = sym (ap (with_parsed only_of) (stray_of _ _ (sym c.scan.ensures ∙ ap found_answer c.in-Stray-scan.is)))
-
-pub returns-in-Large-scan : goal.returns-in-Large-scan
-returns-in-Large-scan c = sym (ap (with_parsed only_of) (large_of _ _ (sym c.scan.ensures ∙ ap found_answer c.in-Large-scan.is)))
-
-pub returns-else-k-eq1 : goal.returns-else-k-eq1
-returns-else-k-eq1 c = sym (only_more _ _ (first (goal.at.returns-else-k-eq1 c).After-next_number) c.in-Number.is (sym c.scan.ensures ∙ ap found_answer c.in-Count.is) c.if-k-eq1.false)
+pub returns : goal.returns
+returns c =
+    sym (only_more _ _ _ _ (from_start _ _ _ (c.in_ok-number.ensures.text_value ∙ ap (λ (o : Option (ℕ × ℕ)). token_answer c.args.most c.args.text.now (Ok o)) c.in-Some.is)) (sym c.in_ok-one.ensures) c.if-one.false)

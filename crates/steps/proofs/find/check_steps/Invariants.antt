@@ -1,5 +1,3 @@
-use Prim.Native.Nat.{◌-◌}
-use lib.ListN.{length}
 use Rattle.steps.specs.Steps.{check_steps}
 use Rattle.steps.specs.Seek.{names_in}
 use Rattle.steps.specs.StepsLaws.{Checking}
@@ -7,6 +5,3 @@ use Rattle.steps.proofs.find.check_steps.Given as goal
 
 abbrev pub invariant-loop-i : goal.invariant-loop-i
 invariant-loop-i l = Checking (names_in l.file l.sizes l.count l.row) l.list (check_steps (names_in l.file l.sizes l.count l.row) 0 l.list) l.i
-
-abbrev pub decreases-loop-i : goal.decreases-loop-i
-decreases-loop-i l = length l.list - l.i

@@ -1,4 +1,4 @@
--- `steps::find::find_in_node` meets its contract: the values are counted, or the edge is looked up. Assumes nothing.
+-- `steps::find::find_in_node` meets its contract: the values are counted, or the edge is looked up.
 use Rattle.steps.specs.SeekLaws.{node_found, node_past}
 use Rattle.steps.proofs.find.find_in_node.Goals as goal
 

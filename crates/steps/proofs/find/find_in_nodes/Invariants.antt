@@ -1,4 +1,4 @@
-use Prim.Native.Nat.{ℕ, ◌+◌, ◌-◌}
+use Prim.Native.Nat.{ℕ, ◌+◌}
 use mathlib.Core.List.{List}
 use Rattle.words.specs.Rows.{row_from, node_for}
 use Rattle.steps.specs.Steps.{Named, node_names}
@@ -12,6 +12,3 @@ part file sizes nodes a j = node_names a (1 + j) (node_for file sizes nodes j)
 
 abbrev pub invariant-loop-j : goal.invariant-loop-j
 invariant-loop-j l = Seeking (part l.file l.sizes l.nodes l.a) (seek (row_from (part l.file l.sizes l.nodes l.a) 0 l.m) l.k) l.j l.m l.left
-
-abbrev pub decreases-loop-j : goal.decreases-loop-j
-decreases-loop-j l = l.m - l.j

@@ -1,10 +1,10 @@
--- `steps::find::find_step` meets its contract: one action after the other, the steps that are passed taken off. Assumes nothing.
+-- `steps::find::find_step` meets its contract: one action after the other, the steps that are passed taken off.
 use mathlib.Core.Path.{◌≡◌, sym, ap, ◌∙◌}
 use Rattle.taskfile.specs.Task.{Action}
 use Rattle.words.specs.RowLaws.{action_as}
 use Rattle.steps.specs.Steps.{action_names}
 use Rattle.steps.specs.Seek.{seek, sought_answer}
-use Rattle.steps.specs.SeekLaws.{part_of, names_start, seeking_found, seeking_on}
+use Rattle.steps.specs.SeekLaws.{part_of, names_start, seeking_found, seeking_on, seeking_past}
 use Rattle.steps.proofs.find.find_step.Goals as goal
 use Rattle.steps.proofs.find.find_step.Goals.{After-find_in_action}
 
@@ -18,8 +18,11 @@ own c =
 pub loop-a-init : goal.loop-a-init
 loop-a-init c = let x = c.args in names_start x.file.now x.sizes.now x.row.now x.count x.k
 
-pub returns-in-Found : goal.returns-in-Found
-returns-in-Found c = seeking_found c.loop-a.invariant c.loop-a-test.true (own (goal.at.returns-in-Found c).After-find_in_action ∙ ap sought_answer c.in-Found.is)
+pub returns-in-Ok : goal.returns-in-Ok
+returns-in-Ok c = seeking_found c.loop-a.invariant c.loop-a-test.true (own (goal.at.returns-in-Ok c).After-find_in_action ∙ ap sought_answer c.in-Ok.is)
 
 pub loop-a-preserved : goal.loop-a-preserved
-loop-a-preserved c = seeking_on c.loop-a.invariant c.loop-a-test.true (own (goal.at.loop-a-preserved c).After-find_in_action ∙ ap sought_answer c.in-Past.is)
+loop-a-preserved c = seeking_on c.loop-a.invariant c.loop-a-test.true (own (goal.at.loop-a-preserved c).After-find_in_action ∙ ap sought_answer c.in-Err.is)
+
+pub returns : goal.returns
+returns c = seeking_past c.loop-a.invariant c.loop-a-test.false

@@ -1,6 +1,6 @@
--- `steps::names::put_node_name` meets its contract: one part straight after the other. Assumes nothing.
-use Rattle.words.specs.RowLaws.{two_then}
+-- `steps::names::put_node_name` meets its contract: one part straight after the other.
+use Rattle.text.specs.WriterLaws.{appends_then}
 use Rattle.steps.proofs.names.put_node_name.Goals as goal
 
 pub returns : goal.returns
-returns c = two_then c.put_numbered-action.ensures (two_then c.put_numbered-number.ensures (two_then c.put_numbered-variable.ensures c.put_numbered.ensures.adds))
+returns c = appends_then c.put_numbered.ensures (appends_then c.put_numbered-2.ensures (appends_then c.put_numbered-3.ensures c.put_numbered-4.ensures))

@@ -1,6 +1,6 @@
--- `trace::entry::put_step` meets its contract: one part straight after the other. Assumes nothing.
-use Rattle.text.specs.AppendLaws.{adds_then}
+-- `trace::entry::put_step` meets its contract: one part straight after the other.
+use Rattle.text.specs.WriterLaws.{appends_then}
 use Rattle.trace.proofs.entry.put_step.Goals as goal
 
 pub returns : goal.returns
-returns c = adds_then c.append_number-number.ensures (adds_then c.append-space.ensures c.put_step_name.ensures)
+returns c = appends_then c.append_number.ensures (appends_then c.append_byte.ensures c.put_step_name.ensures)

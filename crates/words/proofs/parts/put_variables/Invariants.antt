@@ -1,4 +1,4 @@
-use Prim.Native.Nat.{ℕ, ◌-◌}
+use Prim.Native.Nat.{ℕ}
 use mathlib.Core.List.{List}
 use lib.ListN.{length, get_or}
 use Rattle.words.specs.Show.{variable_text}
@@ -11,7 +11,4 @@ abbrev pub text : List ℕ → List ℕ → ℕ → List ℕ
 text sizes init v = variable_text v (get_or sizes v 0) (get_or init v 0)
 
 abbrev pub invariant-loop-v : goal.invariant-loop-v
-invariant-loop-v l = Row (text l.sizes l.init) (row_from (text l.sizes l.init) 0 (length l.sizes)) l.initial.out l.out l.at l.end l.v (length l.sizes)
-
-abbrev pub decreases-loop-v : goal.decreases-loop-v
-decreases-loop-v l = length l.sizes - l.v
+invariant-loop-v l = Row (text l.sizes l.init) (row_from (text l.sizes l.init) 0 (length l.sizes)) l.initial.out l.out l.v (length l.sizes)

@@ -1,2 +1,0 @@
--- Laws that only this crate's proofs need.
-pub mod Decided

@@ -1,0 +1,16 @@
+-- Text written by a writer into the buffer that it was lent.
+use Rattle.std.specs.Prelude.{ℕ, ◌≡◌, List}
+use Rattle.std.specs.Borrow.{MutBor}
+use Rattle.text.specs.declared.append.Writer.{Writer}
+use Rattle.text.specs.Append.{Adds}
+
+-- A writer stands at the front of a buffer, and nothing was written yet.
+pub record Starts (out : MutBor (List ℕ)) (w : Writer) : Type 0 where
+  pub same : w.out.ghost_name ≡ out.ghost_name
+  pub buffer : w.out.now ≡ out.now
+  pub front : w.at ≡ 0
+
+-- Bytes were written straight after what there was, into the same buffer, by a writer that was `before` and is `now`.
+pub record Appends (bs : List ℕ) (before now : Writer) : Type 0 where
+  pub same : now.out.ghost_name ≡ before.out.ghost_name
+  pub adds : Adds bs before.out.now now.out.now before.at now.at
