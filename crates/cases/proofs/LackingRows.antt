@@ -1,7 +1,7 @@
 -- Row 17 of the table, which document 02 adds, for an action number and a relaxed state: the law of all rows of relaxed costs. The condition is in specs/LackingRows.antt.
-use Rattle.std.specs.Prelude.{◌≡◌, refl, ◌↔◌, Bool, false, ℕ, zero, suc, ◌+◌, List, length}
+use Rattle.std.specs.Prelude.{◌≡◌, refl, ◌↔◌, Bool, false, ℕ, zero, suc, ◌+◌, List, length, Option, None, Some}
 use Rattle.std.proofs.Common.{ap, ◌∙◌, inl, inr, true≢false, arith, ne_eqb}
-use Rattle.std.proofs.Math.Option.{Option, none, some, none-ne-some, some-injective}
+use Rattle.std.proofs.lemmas.Option.{none-some, same_Some}
 use Rattle.std.proofs.lemmas.Bool.{eqb-false}
 use Rattle.facts.specs.Read.{Read, accepted, refused, ◌>>=◌}
 use Rattle.facts.specs.ReadLaws.{through, onward, bind_assoc}
@@ -25,12 +25,12 @@ use Rattle.cases.specs.LackingRows.{Lacks, LowestLacking, RelaxedFault, of_askin
 -- ---- the check
 
 -- a set has no such value exactly if it lacks one
-lacks_value : (set : ℕ) (o : Option ℕ) → (allows set o ≡ false) ↔ ((d : ℕ) × (o ≡ some d) × (bit_of set d ≡ 0))
-lacks_value set none = (λ h. absurd (true≢false h), λ l. absurd (none-ne-some l.0 l.1))
-lacks_value set (some d) = (
+lacks_value : (set : ℕ) (o : Option ℕ) → (allows set o ≡ false) ↔ ((d : ℕ) × (o ≡ Some d) × (bit_of set d ≡ 0))
+lacks_value set None = (λ h. absurd (true≢false h), λ l. absurd (none-some l.0 l.1))
+lacks_value set (Some d) = (
   λ h. let not = eqb-false (bit_of set d) 1 h in (d, refl, omega (arith, not)),
   λ l.
-      let zero_bit = ap (bit_of set) (some-injective d l.0 l.1) ∙ l.2 in
+      let zero_bit = ap (bit_of set) (same_Some d l.0 l.1) ∙ l.2 in
       ne_eqb (bit_of set d) 1 (λ e. omega (arith, zero_bit)),
 )
 

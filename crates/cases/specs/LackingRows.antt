@@ -1,6 +1,5 @@
 -- Row 17 of the table, which document 02 adds, for an action number and a relaxed state: the condition. The law of all rows of relaxed costs is in proofs/LackingRows.antt.
-use Rattle.std.specs.Prelude.{◌≡◌, ℕ, ◌<◌, List}
-use Rattle.std.proofs.Math.Option.{some}
+use Rattle.std.specs.Prelude.{◌≡◌, ℕ, ◌<◌, List, Some}
 use Rattle.facts.specs.Lists.{At}
 use Rattle.facts.specs.Partial.{Partial}
 use Rattle.value.specs.Value.{value_of, bit_of}
@@ -12,7 +11,7 @@ use Rattle.cases.specs.StateRows.{NoSet, AskFault}
 
 -- The set x of variable v lacks the value that the precondition has for v.
 abbrev pub Lacks : Partial → ℕ → ℕ → Type 0
-Lacks pre v x = (d : ℕ) × (value_of pre v ≡ some d) × (bit_of x d ≡ 0)
+Lacks pre v x = (d : ℕ) × (value_of pre v ≡ Some d) × (bit_of x d ≡ 0)
 
 -- The variable p is the lowest whose set lacks the value that the precondition has for it.
 pub record LowestLacking (pre : Partial) (sets : List ℕ) (p : ℕ) : Type 0 where

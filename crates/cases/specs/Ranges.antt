@@ -1,12 +1,10 @@
 -- How large the answers of the operations can be, for every file, list, state and buffer: each place, and each length, cost, sum and exact estimate.
-use Rattle.std.specs.Prelude.{◌≡◌, ℕ, suc, ◌+◌, ◌*◌, ◌≤◌, ◌<◌, Bool, leb, eqb, length}
+use Rattle.std.specs.Prelude.{◌≡◌, ℕ, suc, ◌+◌, ◌*◌, ◌≤◌, ◌<◌, Bool, leb, eqb, length, Option, None, Some, slice_get}
 use Rattle.std.proofs.Math.Path.{refl}
-use Rattle.std.proofs.Math.Option.{Option, none, some}
 use Rattle.std.proofs.Math.Nat.{mul-suc, mul-le-mul_left}
 use Rattle.std.proofs.Common.{arith}
 use mathlib.Core.List.{List, [], ◌∷◌, map}
 use Rattle.std.proofs.Math.Dec.{ltb}
-use Rattle.std.proofs.Math.ListN.{get_elem?}
 use Rattle.facts.specs.Read.{Read, accepted, refused, with_value, ◌>>=◌}
 use Rattle.facts.specs.ReadLaws.{through, bind_assoc}
 use Rattle.facts.specs.Write.{length_in}
@@ -85,11 +83,11 @@ Walked long dear w = (w.passed ≤ long) × (w.cost ≤ dear)
 
 action_placed : (actions : List Action) (a most : ℕ) → Within (At actions a) most (action_of actions a)
 unfolding action_of
-action_placed actions a most = go (get_elem? actions a) refl
+action_placed actions a most = go (slice_get actions a) refl
   where
-    go : (o : Option Action) → get_elem? actions a ≡ o → Within (At actions a) most (elim o as (λ o. Read Action) [ none ↦ refused 11 0 | some x ↦ accepted x ])
-    go none e = place {p = 0} (omega arith)
-    go (some x) e = value (found actions a e)
+    go : (o : Option Action) → slice_get actions a ≡ o → Within (At actions a) most (elim o as (λ o. Read Action) [ None ↦ refused 11 0 | Some x ↦ accepted x ])
+    go None e = place {p = 0} (omega arith)
+    go (Some x) e = value (found actions a e)
 
 module _ (f : List ℕ) (bytes : Bytes f) (a : ℕ) (s : List ℕ) where
   ask_range : {A : Type 0} (P : A → Type 0) (checks : List ℕ → List ℕ → Read (Unit {0})) (answer : Action → List ℕ → A) → ((sizes : List ℕ) → length sizes ≤ max_variables → Placed (suc max_bytes) (checks sizes s))
@@ -188,11 +186,11 @@ most_passed = 6144
 module _ {y : Probe} (wf : WfProbe y) where
   step_kept : (r : ℕ) (s e : List ℕ) (c : ℕ) → Unit {0} → step_move y.steps r s ≡ next e c → Unit {0} × (c ≤ 65535)
   unfolding step_move
-  step_kept r s e c u m = go (get_elem? y.steps r) refl m
+  step_kept r s e c u m = go (slice_get y.steps r) refl m
     where
-      go : (o : Option Step) → get_elem? y.steps r ≡ o → elim o as (λ o. Move) [ none ↦ blocked | some st ↦ performStep st s ] ≡ next e c → Unit {0} × (c ≤ 65535)
-      go none q m = absurd (not_blocked m)
-      go (some st) q m = (tt, omega (arith, attempt_cost st.pre st.eff st.cost s m, (all_at (WfStep y.sizes) wf.steps (found y.steps r q)).cost))
+      go : (o : Option Step) → slice_get y.steps r ≡ o → elim o as (λ o. Move) [ None ↦ blocked | Some st ↦ performStep st s ] ≡ next e c → Unit {0} × (c ≤ 65535)
+      go None q m = absurd (not_blocked m)
+      go (Some st) q m = (tt, omega (arith, attempt_cost st.pre st.eff st.cost s m, (all_at (WfStep y.sizes) wf.steps (found y.steps r q)).cost))
 
   probe_sum_range : (list : List ℕ) → Within (λ c. c ≤ most_of_probe) maxProbeList (◌>>=◌ (at_most maxProbeList list) (λ u. probe_sum y list))
   unfolding probe_sum

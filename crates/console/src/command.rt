@@ -4,7 +4,7 @@ use crate::output::Stream;
 use arguments::table::number_in;
 use arguments::{Name, Shape};
 
-#[derive(Clone, Copy)]
+#[derive(Clone, Copy, Debug, PartialEq, Eq)]
 pub enum Command {
     Check,
     Compile,
@@ -93,39 +93,30 @@ pub fn shape_of(command: Command, count: usize) -> Shape {
     }
 }
 
-// Which argument of a command is a text, from 0 on; 0 if none is.
-pub fn text_of(command: Command) -> usize {
+// Which argument of a command is a text, from 0 on, if one is.
+pub fn text_of(command: Command) -> Option<u8> {
     match command {
-        Command::Check => 0,
-        Command::Compile => 0,
-        Command::Cost => 2,
-        Command::Relaxed => 2,
-        Command::Show => 0,
-        Command::Draw => 0,
-        Command::Charge => 0,
-        Command::Dearest => 0,
-        Command::Unknown => 0,
-        _ => 1,
+        Command::Cost | Command::Relaxed => Some(2),
+        Command::Run
+        | Command::Follow
+        | Command::Expand
+        | Command::Contract
+        | Command::Estimate
+        | Command::Steps
+        | Command::Sheet => Some(1),
+        _ => None,
     }
 }
 
 // Whether a command takes files of either kind.
 pub fn takes_either(command: Command) -> bool {
-    match command {
-        Command::Check => true,
-        Command::Estimate => true,
-        Command::Show => true,
-        _ => false,
-    }
+    matches!(command, Command::Check | Command::Estimate | Command::Show)
 }
 
 // Where a refusal goes, with the arguments behind number `behind`: to standard error if standard output is there for data. With no names `compile` does as document 01's program.
 pub fn refusal_stream(rt: HostRuntime, command: Command, behind: u8) -> Stream {
     match command {
-        Command::Expand => Stream::Errors,
-        Command::Contract => Stream::Errors,
-        Command::Draw => Stream::Errors,
-        Command::Sheet => Stream::Errors,
+        Command::Expand | Command::Contract | Command::Draw | Command::Sheet => Stream::Errors,
         Command::Compile => compiled_stream(rt, behind),
         _ => Stream::Output,
     }

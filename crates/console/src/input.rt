@@ -1,18 +1,19 @@
 // What the arguments name: files, texts of numbers, and numbers.
-ghost use Rattle.std.specs.Prelude.{IfOk};
+ghost use Rattle.std.specs.Prelude.{◌≤◌, length, IfOk, IfSome};
 ghost use Rattle.text.specs.Append.{Counts};
 
-use crate::output::{fail, fault, within16};
+use crate::output::{fail, fault};
 use report::Fault;
 use scan::place::place;
+use scan::read::{Entry, number, numbers};
 use std::env::FillError;
 use std::fs::File;
 use std::io;
 use std::io::Read;
 use std::rt::Env;
 use std::str::from_utf8;
-use text::append::{append, within};
-use text::{Found, One};
+use text::append::Writer;
+use text::{Flaw, Only};
 
 // The most bytes of a name, with the zero that the system ends it by.
 pub const PATH_MAX: usize = 4096;
@@ -23,35 +24,11 @@ const EILSEQ: i32 = 84;
 // The most bytes of a text of numbers.
 const TEXT: usize = 131072;
 
-// The largest numbers of a list, of a state and of an argument.
-const LIST_NUMBER: u16 = 65535;
-
-const STATE_NUMBER: u8 = 255;
-
-const ARGUMENT: u32 = 4294967295;
-
-// Whether something was had, and how much of it there is.
-#[derive(Drop)]
-pub struct Given {
-    pub ok: bool,
-    pub length: usize,
-}
-
-// Whether there was a number, and which.
-#[derive(Drop)]
-pub struct Number {
-    pub ok: bool,
-    pub value: u32,
-}
-
 // Argument i, at the front of a buffer. One that there is not, or that is longer than the buffer, counts as empty.
 pub fn argument(rt: HostRuntime, i: usize, buf: &mut [u8]) -> usize
     ensures { Counts result buf.new }
 {
-    match rt.arg(i, buf) {
-        Ok(length) => length,
-        Err(_) => 0,
-    }
+    rt.arg(i, buf).unwrap_or(0)
 }
 
 // How many arguments there are, the program's name among them.
@@ -74,19 +51,13 @@ pub fn is_word(rt: HostRuntime, i: usize, word: &[u8]) -> bool {
 // Whether there is an argument i.
 pub fn is_given(rt: HostRuntime, i: usize) -> bool {
     let mut none = [0; 0];
-    match rt.arg(i, &mut none) {
-        Err(FillError::NotPresent) => false,
-        _ => true,
-    }
+    !matches!(rt.arg(i, &mut none), Err(FillError::NotPresent))
 }
 
 // Whether argument i is longer than a name can be.
 pub fn is_long(rt: HostRuntime, i: usize) -> bool {
     let mut name = [0; PATH_MAX];
-    match rt.arg(i, &mut name) {
-        Err(FillError::TooLong) => true,
-        _ => false,
-    }
+    matches!(rt.arg(i, &mut name), Err(FillError::TooLong))
 }
 
 // Whether argument i is standard input: `-`, or left out.
@@ -107,35 +78,30 @@ pub fn name_of(rt: HostRuntime, i: usize, name: &mut [u8]) -> usize
 {
     let length = argument(rt, i, name);
     if is_input(rt, i) {
-        let end = append(name, 0, b"standard input");
-        return within(end, name);
+        let mut out = Writer::new(name);
+        out.append(b"standard input");
+        return out.written().len();
     }
     length
 }
 
 // A name as the path of a file.
 pub fn path_of(name: &[u8]) -> io::Result<&str> {
-    match from_utf8(name) {
-        Ok(path) => Ok(path),
-        Err(_) => Err(io::Error::from_raw_os_error(EILSEQ)),
-    }
+    from_utf8(name).map_err(|_| io::Error::from_raw_os_error(EILSEQ))
 }
 
 // The bytes of the file that argument i names, as many as there is room for. What is wrong is said.
-pub fn read_file(rt: HostRuntime, i: usize, buf: &mut [u8]) -> Given
-    ensures { Counts result.length buf.new }
+pub fn read_file(rt: HostRuntime, i: usize, buf: &mut [u8]) -> Option<usize>
+    ensures { IfSome result (λ n. Counts n buf.new) }
 {
     let mut space = [0; PATH_MAX];
     let length = name_of(rt, i, &mut space);
     let name = &space[..length];
     match read_from(rt, i, name, buf) {
-        Ok(length) => Given { ok: true, length },
+        Ok(length) => Some(length),
         Err(why) => {
             fail(rt, name, why);
-            Given {
-                ok: false,
-                length: 0,
-            }
+            None
         }
     }
 }
@@ -151,6 +117,7 @@ fn read_from(rt: HostRuntime, i: usize, name: &[u8], buf: &mut [u8]) -> io::Resu
 }
 
 // Fills a buffer from the front, as far as there is something to read; how many bytes that are. Past a full buffer a byte is read, which says whether reading goes on well.
+// The loop is written out: the library's own would tell nothing of a read that fails past a full buffer.
 fn fill<R: Read>(from: &mut R, buf: &mut [u8]) -> io::Result<usize>
     ensures { IfOk result (λ n. Counts n buf.new) }
 {
@@ -168,97 +135,71 @@ fn fill<R: Read>(from: &mut R, buf: &mut [u8]) -> io::Result<usize>
 }
 
 // The text that argument i names.
-fn read_text(rt: HostRuntime, i: usize, text: &mut [u8]) -> Given
-    ensures { Counts result.length text.new }
+fn read_text(rt: HostRuntime, i: usize, text: &mut [u8]) -> Option<usize>
+    ensures { IfSome result (λ n. Counts n text.new) }
 {
-    let given = read_file(rt, i, text);
-    if given.length == TEXT {
+    let length = read_file(rt, i, text)?;
+    if length == TEXT {
         wrong_text(rt, i, Fault::Long(TEXT - 1));
-        return Given {
-            ok: false,
-            length: 0,
-        };
+        return None;
     }
-    given
+    Some(length)
 }
 
-// The numbers of the text that argument i names, as many as there is room for. A text that was not had is empty.
-pub fn read_list(rt: HostRuntime, i: usize, list: &mut [u16]) -> Given
-    ensures { Counts result.length list.new }
+// The numbers of the text that argument i names, each at most `most`, as many as there is room for. What is wrong is said.
+fn read_numbers<T: Entry>(rt: HostRuntime, i: usize, most: T, list: &mut [T]) -> Option<usize>
+    ensures { IfSome result (λ n. n ≤ length list.new) }
 {
     let mut text = [0; TEXT];
-    let given = read_text(rt, i, &mut text);
-    let n = given.length;
+    let n = read_text(rt, i, &mut text)?;
     let part = &text[..n];
-    let found = scan::read::numbers16(part, LIST_NUMBER, list);
-    let count = counted(rt, i, part, found, LIST_NUMBER as u32);
-    Given {
-        ok: given.ok && count.ok,
-        length: within16(count.length, list),
+    match numbers(part, most, list) {
+        Ok(count) => Some(count.min(list.len())),
+        Err(flaw) => {
+            wrong_text(rt, i, fault_at(part, flaw, most.number()));
+            None
+        }
     }
 }
 
-// The same for a state, or for sets of values.
-pub fn read_state(rt: HostRuntime, i: usize, state: &mut [u8]) -> Given
-    ensures { Counts result.length state.new }
+// The numbers of a list.
+pub fn read_list(rt: HostRuntime, i: usize, list: &mut [u16]) -> Option<usize>
+    ensures { IfSome result (λ n. n ≤ length list.new) }
 {
-    let mut text = [0; TEXT];
-    let given = read_text(rt, i, &mut text);
-    let n = given.length;
-    let part = &text[..n];
-    let found = scan::read::numbers8(part, STATE_NUMBER, state);
-    let count = counted(rt, i, part, found, STATE_NUMBER as u32);
-    Given {
-        ok: given.ok && count.ok,
-        length: within(count.length, state),
-    }
+    read_numbers(rt, i, u16::MAX, list)
 }
 
-// How many numbers were found in the text of argument i, each at most `most`.
-fn counted(rt: HostRuntime, i: usize, text: &[u8], found: Found, most: u32) -> Given {
-    match found {
-        Found::Count(n) => Given {
-            ok: true,
-            length: n,
-        },
-        Found::Stray(p) => {
-            let at = place(text, p);
-            wrong_text(rt, i, Fault::Stray(at.line, at.entry))
-        }
-        Found::Large(p) => {
-            let at = place(text, p);
-            wrong_text(rt, i, Fault::Large(at.line, at.entry, most))
-        }
+// Those of a state, or of sets of values.
+pub fn read_state(rt: HostRuntime, i: usize, state: &mut [u8]) -> Option<usize>
+    ensures { IfSome result (λ n. n ≤ length state.new) }
+{
+    read_numbers(rt, i, u8::MAX, state)
+}
+
+// What is wrong with a text of numbers that are at most `most`, by line and entry.
+fn fault_at(text: &[u8], flaw: Flaw, most: u32) -> Fault {
+    match flaw {
+        Flaw::Stray(p) => Fault::Stray(place(text, p)),
+        Flaw::Large(p) => Fault::Large(place(text, p), most),
     }
 }
 
 // The number that argument i is, of the name that it has in the help. What is wrong is said.
-pub fn read_number(rt: HostRuntime, i: usize, name: &[u8]) -> Number {
+pub fn read_number(rt: HostRuntime, i: usize, name: &[u8]) -> Option<u32> {
     let mut word = [0; PATH_MAX];
     let length = argument(rt, i, &mut word);
-    match scan::read::number(&word[..length], ARGUMENT) {
-        One::Number(n) => Number { ok: true, value: n },
-        One::Large(_) => no_number(rt, name, Fault::Above(ARGUMENT)),
-        _ => no_number(rt, name, Fault::NotOne),
-    }
-}
-
-// Nothing was had of the argument of a name, and what is wrong is said.
-fn no_number(rt: HostRuntime, name: &[u8], why: Fault) -> Number {
+    let why = match number(&word[..length], u32::MAX) {
+        Ok(Only::One(n)) => return Some(n),
+        Err(Flaw::Large(_)) => Fault::Above(u32::MAX),
+        _ => Fault::NotOne,
+    };
     fault(rt, name, why);
-    Number {
-        ok: false,
-        value: 0,
-    }
+    None
 }
 
-// The same of the text of argument i.
-fn wrong_text(rt: HostRuntime, i: usize, why: Fault) -> Given {
+// What is wrong with the text of argument i is said.
+fn wrong_text(rt: HostRuntime, i: usize, why: Fault) {
     let mut name = [0; PATH_MAX];
     let length = name_of(rt, i, &mut name);
     fault(rt, &name[..length], why);
-    Given {
-        ok: false,
-        length: 0,
-    }
 }

@@ -1,5 +1,4 @@
 // What the tool writes: answers to standard output, sums of lists and what is wrong to standard error, and a digit for the exit status to descriptor 3, or a letter where nobody reads what it writes. Any other write that fails is told, and the status is 2.
-ghost use Rattle.text.specs.Append.{Counts};
 
 use crate::asking::Asked;
 use crate::input::{PATH_MAX, argument, name_of};
@@ -12,10 +11,11 @@ use std::fs::OpenOptions;
 use std::io::{ErrorKind, Write};
 use std::os::unix::fs::MetadataExt;
 use std::{fs, io};
-use text::append::{append, append_byte, append_list, within};
+use taskfile::Walked;
+use text::append::Writer;
 
 // Where a text goes: to standard output, or to standard error.
-#[derive(Clone, Copy)]
+#[derive(Clone, Copy, Debug, PartialEq, Eq)]
 pub enum Stream {
     Output,
     Errors,
@@ -41,22 +41,11 @@ const LIST_TEXT: usize = 65536;
 // More bytes than the system's words for an error have.
 const REASON: usize = 300;
 
-// The number n, or the length of a list if that is less.
-pub fn within16(n: usize, list: &[u16]) -> usize
-    ensures { Counts result list.now }
-{
-    if list.len() < n {
-        return list.len();
-    }
-    n
-}
-
-// Writes the first n bytes of a text. Where nobody reads them, the status says so, and what it says first counts.
-fn write(rt: HostRuntime, to: Stream, text: &[u8], n: usize) -> io::Result<()> {
-    let most = within(n, text);
+// Writes a text. Where nobody reads it, the status says so, and what it says first counts.
+fn write(rt: HostRuntime, to: Stream, text: &[u8]) -> io::Result<()> {
     let written = match to {
-        Stream::Output => Print::write_all(&rt.stdout(), &text[..most]),
-        Stream::Errors => Print::write_all(&rt.stderr(), &text[..most]),
+        Stream::Output => Print::write_all(&rt.stdout(), text),
+        Stream::Errors => Print::write_all(&rt.stderr(), text),
     };
     if let Err(why) = written {
         if is_unread(why) {
@@ -72,8 +61,8 @@ fn is_unread(why: io::Error) -> bool {
 }
 
 // The same to standard error, where nothing else can be said if that fails.
-fn complain_of(rt: HostRuntime, text: &[u8], n: usize) {
-    let _ = write(rt, Stream::Errors, text, n);
+fn complain_of(rt: HostRuntime, text: &[u8]) {
+    let _ = write(rt, Stream::Errors, text);
 }
 
 // The digit of the exit status, if the descriptor is open for writing: else nobody asks for one.
@@ -98,17 +87,18 @@ pub fn fail(rt: HostRuntime, name: &[u8], why: io::Error) {
         Some((words, _)) => words,
         None => reason,
     };
-    let mut line = [0; NAMED_LINE];
-    let first = append(&mut line, 0, name);
-    let second = append(&mut line, first, b": ");
-    let third = append(&mut line, second, words.as_bytes());
-    let end = append_byte(&mut line, third, b'\n');
-    complain_of(rt, &line, end);
+    let mut space = [0; NAMED_LINE];
+    let mut line = Writer::new(&mut space);
+    line.append(name);
+    line.append(b": ");
+    line.append(words.as_bytes());
+    line.append_byte(b'\n');
+    complain_of(rt, line.written());
 }
 
-// The first n bytes of a text are the answer.
-pub fn reply(rt: HostRuntime, text: &[u8], n: usize) {
-    let written = write(rt, Stream::Output, text, n);
+// A text is the answer.
+pub fn reply(rt: HostRuntime, text: &[u8]) {
+    let written = write(rt, Stream::Output, text);
     end(rt, written, b"0");
 }
 
@@ -135,9 +125,10 @@ pub fn failed(rt: HostRuntime) {
 
 // What is wrong with the text or argument of a name.
 pub fn fault(rt: HostRuntime, name: &[u8], why: Fault) {
-    let mut line = [0; NAMED_LINE];
-    let n = report::put_fault(&mut line, 0, name, why);
-    complain_of(rt, &line, n);
+    let mut space = [0; NAMED_LINE];
+    let mut line = Writer::new(&mut space);
+    report::put_fault(&mut line, name, why);
+    complain_of(rt, line.written());
 }
 
 // What is wrong with the command line, with argument i, if that is it.
@@ -146,88 +137,99 @@ pub fn complain(rt: HostRuntime, i: usize, why: Wrong) {
     let n = argument(rt, 1, &mut command);
     let mut word = [0; PATH_MAX];
     let m = argument(rt, i, &mut word);
-    let mut line = [0; WORDS_LINE];
-    let end = arguments::put_wrong(&mut line, 0, &command[..n], &word[..m], why);
-    complain_of(rt, &line, end);
+    let mut space = [0; WORDS_LINE];
+    let mut line = Writer::new(&mut space);
+    arguments::put_wrong(&mut line, &command[..n], &word[..m], why);
+    complain_of(rt, line.written());
 }
 
 // The file was refused as one kind, and is accepted as the other: a probe file, or a task file.
 pub fn hint(rt: HostRuntime, i: usize, either: bool, probe: bool) {
     let mut name = [0; PATH_MAX];
     let n = name_of(rt, i, &mut name);
-    let mut line = [0; NAMED_LINE];
-    let end = arguments::put_hint(&mut line, 0, &name[..n], either, probe);
-    complain_of(rt, &line, end);
+    let mut space = [0; NAMED_LINE];
+    let mut line = Writer::new(&mut space);
+    arguments::put_hint(&mut line, &name[..n], either, probe);
+    complain_of(rt, line.written());
 }
 
 // A refusal, and if it is asked for a sentence that explains it.
 pub fn refuse(rt: HostRuntime, asked: Asked, subject: Subject, why: Refusal) {
     let to = asked.stream;
-    let mut line = [0; LINE];
-    let n = report::put_refusal(&mut line, 0, why);
-    let mut written = write(rt, to, &line, n);
+    let mut space = [0; LINE];
+    let mut line = Writer::new(&mut space);
+    report::put_refusal(&mut line, why);
+    let mut written = write(rt, to, line.written());
     if asked.explain {
-        let mut sentence = [0; LINE];
-        let m = explain::put_explanation(&mut sentence, 0, subject, why);
-        written = write(rt, to, &sentence, m).and(written);
+        let mut space = [0; LINE];
+        let mut sentence = Writer::new(&mut space);
+        explain::put_explanation(&mut sentence, subject, why);
+        written = write(rt, to, sentence.written()).and(written);
     }
     end(rt, written, b"1");
 }
 
 // More about a refusal, where that went.
-pub fn add(rt: HostRuntime, asked: Asked, text: &[u8], n: usize) {
-    if let Err(why) = write(rt, asked.stream, text, n) {
+pub fn add(rt: HostRuntime, asked: Asked, text: &[u8]) {
+    if let Err(why) = write(rt, asked.stream, text) {
         fail(rt, b"standard output", why);
     }
 }
 
 // A number after its name.
 pub fn count(rt: HostRuntime, name: &[u8], n: u32) {
-    let mut line = [0; LINE];
-    let end = report::put_count(&mut line, 0, name, n);
-    reply(rt, &line, end);
+    let mut space = [0; LINE];
+    let mut line = Writer::new(&mut space);
+    report::put_count(&mut line, name, n);
+    reply(rt, line.written());
 }
 
 // What an action costs, and how many nodes it passes.
-pub fn costed(rt: HostRuntime, cost: u32, passed: usize) {
-    let mut lines = [0; LINE];
-    let first = report::put_count(&mut lines, 0, b"cost", cost);
-    let end = report::put_around(&mut lines, first, b"nodes ", passed, b"\n");
-    reply(rt, &lines, end);
+pub fn costed(rt: HostRuntime, walked: Walked) {
+    let mut space = [0; LINE];
+    let mut lines = Writer::new(&mut space);
+    report::put_count(&mut lines, b"cost", walked.cost);
+    report::put_around(&mut lines, b"nodes ", walked.passed, b"\n");
+    reply(rt, lines.written());
 }
 
 // What an action costs at most, and the state that is given for it.
 pub fn dearest(rt: HostRuntime, cost: u32, state: &[u8]) {
-    let mut lines = [0; LINE];
-    let n = report::put_dearest(&mut lines, 0, cost, state);
-    reply(rt, &lines, n);
+    let mut space = [0; LINE];
+    let mut lines = Writer::new(&mut space);
+    report::put_dearest(&mut lines, cost, state);
+    reply(rt, lines.written());
 }
 
 // The sum of a plan, how many nodes its actions pass, and how many steps its probe list has.
-pub fn ran(rt: HostRuntime, sum: u32, passed: usize, steps: usize) {
-    let mut lines = [0; LINE];
-    let first = report::put_count(&mut lines, 0, b"sum", sum);
-    let second = report::put_around(&mut lines, first, b"nodes ", passed, b"\n");
-    let end = report::put_around(&mut lines, second, b"steps ", steps, b"\n");
-    reply(rt, &lines, end);
+pub fn ran(rt: HostRuntime, walked: Walked, steps: usize) {
+    let mut space = [0; LINE];
+    let mut lines = Writer::new(&mut space);
+    report::put_count(&mut lines, b"sum", walked.cost);
+    report::put_around(&mut lines, b"nodes ", walked.passed, b"\n");
+    report::put_around(&mut lines, b"steps ", steps, b"\n");
+    reply(rt, lines.written());
 }
 
 // An estimate.
 pub fn estimated(rt: HostRuntime, e: Est) {
-    let mut line = [0; LINE];
-    let n = report::put_estimate(&mut line, 0, e);
-    reply(rt, &line, n);
+    let mut space = [0; LINE];
+    let mut line = Writer::new(&mut space);
+    report::put_estimate(&mut line, e);
+    reply(rt, line.written());
 }
 
 // A list and its sum.
 pub fn listed(rt: HostRuntime, list: &[u16], sum: u32) {
-    let mut text = [0; LIST_TEXT];
-    let n = append_list(&mut text, 0, list);
-    let mut line = [0; LINE];
-    let m = report::put_count(&mut line, 0, b"sum", sum);
-    let mut written = write(rt, Stream::Output, &text, n);
+    let mut space = [0; LIST_TEXT];
+    let mut text = Writer::new(&mut space);
+    text.append_list(list);
+    let mut space = [0; LINE];
+    let mut line = Writer::new(&mut space);
+    report::put_count(&mut line, b"sum", sum);
+    let mut written = write(rt, Stream::Output, text.written());
     if written.is_ok() {
-        written = write(rt, Stream::Errors, &line, m);
+        written = write(rt, Stream::Errors, line.written());
     }
     end(rt, written, b"0");
 }

@@ -1,8 +1,6 @@
 -- Results of the C functions for texts: unpacked, they are the answers of their operations, for every file, list, number and buffer, as `results` says it of the others.
-use Rattle.std.specs.Prelude.{ℕ, suc, ◌+◌, ◌≤◌, ◌≡◌, refl, Bool, true, false, List, [], ◌∷◌, leb, length}
+use Rattle.std.specs.Prelude.{ℕ, suc, ◌+◌, ◌≤◌, ◌≡◌, refl, Bool, true, false, List, [], ◌∷◌, leb, length, Option, None, Some, slice_get}
 use Rattle.std.proofs.Common.{subst, arith}
-use Rattle.std.proofs.Math.Option.{Option, none, some}
-use Rattle.std.proofs.Math.ListN.{get_elem?}
 use Rattle.facts.specs.Read.{Read, accepted, refused, check, with_value, ◌>>=◌}
 use Rattle.facts.specs.Write.{length_in}
 use Rattle.facts.specs.Bytes.{Bytes}
@@ -68,11 +66,11 @@ file_fair f = fair_by (task_places f) (omega arith) (λ n p h. ((numbers_of_file
 
 action_fair : (actions : List Action) (a : ℕ) → Fair (action_of actions a)
 unfolding action_of
-action_fair actions a = go (get_elem? actions a)
+action_fair actions a = go (slice_get actions a)
   where
-    go : (o : Option Action) → Fair {X = Action} (elim o [ none ↦ refused 11 0 | some x ↦ accepted x ])
-    go none = turned {n = 11} {p = 0} (omega arith) (omega arith)
-    go (some x) = given
+    go : (o : Option Action) → Fair {X = Action} (elim o [ None ↦ refused 11 0 | Some x ↦ accepted x ])
+    go None = turned {n = 11} {p = 0} (omega arith) (omega arith)
+    go (Some x) = given
 
 -- a list within its limit, and its numbers
 list_fair : (list : List ℕ) → Fair (at_most max_list list)
@@ -85,11 +83,11 @@ list_fair list = go (leb (length list) max_list)
 
 steps_fair : (names : List Named) (i : ℕ) (list : List ℕ) → i + length list ≤ most_trace → Fair (check_steps names i list)
 steps_fair names i [] l = given
-steps_fair names i (k ∷ list) l = go (get_elem? names k) (steps_fair names (suc i) list (omega arith))
+steps_fair names i (k ∷ list) l = go (slice_get names k) (steps_fair names (suc i) list (omega arith))
   where
-    go : (o : Option Named) → Fair (check_steps names (suc i) list) → Fair {X = Unit {0}} (elim o [ none ↦ refused 11 i | some x ↦ check_steps names (suc i) list ])
-    go none on = turned {n = 11} {p = i} (omega arith) (omega arith)
-    go (some x) on = on
+    go : (o : Option Named) → Fair (check_steps names (suc i) list) → Fair {X = Unit {0}} (elim o [ None ↦ refused 11 i | Some x ↦ check_steps names (suc i) list ])
+    go None on = turned {n = 11} {p = i} (omega arith) (omega arith)
+    go (Some x) on = on
 
 module _ (f : List ℕ) where
   shown_fair : Fair (shown f)

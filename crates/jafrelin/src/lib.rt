@@ -48,7 +48,7 @@ pub extern "C" fn jafrelin_cost(file: &[u8], action: u64, state: &[u8]) -> u64
 pub extern "C" fn jafrelin_relaxed_cost(file: &[u8], action: u64, sets: &[u8]) -> u64
     ensures { result ≡ packed_sum (relaxed_task file.now action sets.now) }
 {
-    packing::costed(task_relaxed::relaxed_cost(file, action as usize, sets))
+    packing::sum(task_relaxed::relaxed_cost(file, action as usize, sets))
 }
 
 // The sum of a list of actions, and how many nodes they pass.
@@ -64,7 +64,7 @@ pub extern "C" fn jafrelin_run_task(file: &[u8], list: &[u16]) -> u64
 pub extern "C" fn jafrelin_run_probe(file: &[u8], list: &[u16]) -> u64
     ensures { result ≡ packed_sum (run_probe file.now list.now) }
 {
-    packing::ran(probe::run(file, list))
+    packing::sum(probe::run(file, list))
 }
 
 // The additive estimate of a task from a state.
@@ -89,7 +89,7 @@ pub extern "C" fn jafrelin_compile(file: &[u8], out: &mut [u8]) -> u64
     ensures value { result ≡ packed_length (compile_file file.now (length out.old)) }
     ensures out_after { out.new ≡ compiled_buffer file.now out.old }
 {
-    packing::compiled(compile::compile(file, out))
+    packing::length(compile::compile(file, out))
 }
 
 // The probe list that comes from a list of actions, written into a buffer.
@@ -98,7 +98,7 @@ pub extern "C" fn jafrelin_expand(file: &[u8], list: &[u16], out: &mut [u16]) ->
     ensures value { result ≡ packed_list (answer_in (length out.old) (expanded file.now list.now)) }
     ensures out_after { out.new ≡ buffer_in out.old (expanded file.now list.now) }
 {
-    packing::carried(expand::expand(file, list, out))
+    packing::list(expand::expand(file, list, out))
 }
 
 // The list of actions that a probe list comes from, written into a buffer.
@@ -107,7 +107,7 @@ pub extern "C" fn jafrelin_contract(file: &[u8], list: &[u16], out: &mut [u16]) 
     ensures value { result ≡ packed_list (answer_in (length out.old) (contracted file.now list.now)) }
     ensures out_after { out.new ≡ buffer_in out.old (contracted file.now list.now) }
 {
-    packing::carried(contract::contract(file, list, out))
+    packing::list(contract::contract(file, list, out))
 }
 
 // The sheet of a plan, written into a buffer.
@@ -116,7 +116,7 @@ pub extern "C" fn jafrelin_sheet(file: &[u8], plan: &[u16], out: &mut [u8]) -> u
     ensures value { result ≡ packed_list (answer_in (length out.old) (sheet_of file.now plan.now)) }
     ensures out_after { out.new ≡ buffer_in out.old (sheet_of file.now plan.now) }
 {
-    packing::sheeted(sheet::sheet(file, plan, out))
+    packing::list(sheet::sheet(file, plan, out))
 }
 
 // The dearest state of an action, written into a buffer, and its cost.
@@ -125,7 +125,7 @@ pub extern "C" fn jafrelin_dearest(file: &[u8], action: u64, out: &mut [u8]) -> 
     ensures value { result ≡ packed_list (answer_in (length out.old) (dearest_of file.now action)) }
     ensures out_after { out.new ≡ buffer_in out.old (dearest_of file.now action) }
 {
-    packing::dearest(task_dearest::dearest(file, action as usize, out))
+    packing::list(task_dearest::dearest(file, action as usize, out))
 }
 
 // The charge for a sum, in cents.
@@ -142,7 +142,7 @@ pub extern "C" fn jafrelin_show(file: &[u8], out: &mut [u8]) -> u64
     ensures value { result ≡ packed_length (length_in (length out.old) (shown file.now)) }
     ensures out_after { out.new ≡ written_in out.old (shown file.now) }
 {
-    packing::described(describe::show(file, out))
+    packing::length(describe::show(file, out))
 }
 
 // All cost diagrams of a task for Graphviz, written into a buffer.
@@ -151,7 +151,7 @@ pub extern "C" fn jafrelin_draw(file: &[u8], out: &mut [u8]) -> u64
     ensures value { result ≡ packed_length (length_in (length out.old) (drawn file.now)) }
     ensures out_after { out.new ≡ written_in out.old (drawn file.now) }
 {
-    packing::described(draw::draw(file, out))
+    packing::length(draw::draw(file, out))
 }
 
 // The cost diagram of an action, written into a buffer.
@@ -160,7 +160,7 @@ pub extern "C" fn jafrelin_draw_action(file: &[u8], action: u64, out: &mut [u8])
     ensures value { result ≡ packed_length (length_in (length out.old) (drawn_action file.now action)) }
     ensures out_after { out.new ≡ written_in out.old (drawn_action file.now action) }
 {
-    packing::described(draw::draw_action(file, action as usize, out))
+    packing::length(draw::draw_action(file, action as usize, out))
 }
 
 // The trace of a list of steps, with the states unless `states` is 0, written into a buffer.
@@ -169,7 +169,7 @@ pub extern "C" fn jafrelin_trace(file: &[u8], list: &[u16], states: u64, out: &m
     ensures value { result ≡ packed_length (length_in (length out.old) (traced (ltb 0 states) file.now list.now)) }
     ensures out_after { out.new ≡ written_in out.old (traced (ltb 0 states) file.now list.now) }
 {
-    packing::described(trace::trace(file, list, 0 < states, out))
+    packing::length(trace::trace(file, list, 0 < states, out))
 }
 
 // The sentence for the refusal in a result, about what `about` names, written into a buffer.
@@ -179,5 +179,5 @@ pub extern "C" fn jafrelin_explain(res: u64, about: u64, out: &mut [u8]) -> u64
     ensures out_after { out.new ≡ written_in out.old (accepted (sentence (subject_of about) (refusal_of res) (place_of res))) }
 {
     let place = (res % 4294967296) as usize;
-    packing::described(sentence::explain(res / 72057594037927936, place, about, out))
+    packing::length(sentence::explain(res / 72057594037927936, place, about, out))
 }

@@ -1,7 +1,8 @@
 // Runs the known cases about tasks (document 01) with the code itself; what it writes is compared with the file stdout.
 #![tactic(auto)]
 
-use taskfile::{Costed, Tallied, Task};
+use facts::Refusal;
+use taskfile::{Task, Walked};
 
 fn main(rt: HostRuntime) {
     let p =
@@ -121,19 +122,19 @@ fn show_cost(rt: &impl Print, file: &[u8], action: usize, state: &[u8]) {
     show_tallied(rt, b"cost", task::cost(file, action, state));
 }
 
-fn show_tallied(rt: &impl Print, what: &[u8], answer: Tallied) {
+fn show_tallied(rt: &impl Print, what: &[u8], answer: Result<Walked, Refusal>) {
     match answer {
-        Tallied::Sum(sum, passed) => {
-            show::count(rt, what, sum);
-            show::nodes(rt, passed);
+        Ok(walked) => {
+            show::count(rt, what, walked.cost);
+            show::nodes(rt, walked.passed);
         }
-        Tallied::Refused(why) => show::refusal(rt, why),
+        Err(why) => show::refusal(rt, why),
     }
 }
 
 fn show_relaxed(rt: &impl Print, file: &[u8], action: usize, sets: &[u8]) {
     match task_relaxed::relaxed_cost(file, action, sets) {
-        Costed::Cost(cost) => show::count(rt, b"relaxed", cost),
-        Costed::Refused(why) => show::refusal(rt, why),
+        Ok(cost) => show::count(rt, b"relaxed", cost),
+        Err(why) => show::refusal(rt, why),
     }
 }

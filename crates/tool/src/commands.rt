@@ -2,21 +2,16 @@
 use crate::describing::{sheet, steps};
 use crate::failing;
 use crate::saving::save;
-use carry::Carried;
-use compilation::Compiled;
 use console::asking::Asked;
 use console::command::Command;
 use console::input::{read_list, read_number, read_state};
 use console::output;
-use console::output::{costed, count, estimated, failed, listed, ran, refuse, reply, within16};
-use dearest::Dearest;
-use estimate::Estimated;
-use facts::{Checked, Ran};
-use measure::Measured;
+use console::output::{costed, count, estimated, failed, listed, ran, refuse, reply};
+use estimate::Est;
+use facts::Refusal;
 use probefile::Probe;
 use report::Subject;
-use taskfile::{Costed, Tallied, Task};
-use text::append::within;
+use taskfile::Task;
 
 // One entry more than the longest list, one of steps, and than a state may have.
 const LIST: usize = Probe::MAX_LIST + 1;
@@ -34,44 +29,37 @@ pub enum Question {
 
 // `check FILE`: the file is accepted.
 pub fn accepted(rt: HostRuntime) {
-    let text: &[u8] = b"accepted\n";
-    reply(rt, text, text.len());
+    reply(rt, b"accepted\n");
 }
 
 // Whether a file is accepted; if not, its refusal is said.
-pub fn is_accepted(rt: HostRuntime, answer: Checked, asked: Asked) -> bool {
-    match answer {
-        Checked::Accepted => true,
-        Checked::Refused(why) => {
-            refuse(rt, asked, Subject::File, why);
-            false
-        }
+pub fn is_accepted(rt: HostRuntime, answer: Result<(), Refusal>, asked: Asked) -> bool {
+    if let Err(why) = answer {
+        refuse(rt, asked, Subject::File, why);
     }
+    answer.is_ok()
 }
 
 // `compile TASK PROBE`: the probe file of a task.
 pub fn compile(rt: HostRuntime, file: &[u8], next: usize, asked: Asked) {
     let mut out = [0; Task::MAX_WRITTEN];
     match compile::compile(file, &mut out) {
-        Compiled::Length(length) => {
-            let n = within(length, &out);
+        Ok(length) => {
+            let n = length.min(out.len());
             save(rt, next, &out[..n]);
         }
-        Compiled::Refused(why) => refuse(rt, asked, Subject::File, why),
+        Err(why) => refuse(rt, asked, Subject::File, why),
     }
 }
 
 // `run`, `follow`, `expand`, `contract`, `sheet`, `steps`: a command on the list that its next argument names.
 pub fn on_list(rt: HostRuntime, asked: Asked, file: &[u8], next: usize) {
     let mut entries = [0; LIST];
-    let given = read_list(rt, next, &mut entries);
-    if !given.ok {
+    let Some(n) = read_list(rt, next, &mut entries) else {
         return failed(rt);
-    }
-    let n = given.length;
+    };
     let list = &entries[..n];
-    let command = asked.command;
-    match command {
+    match asked.command {
         Command::Run => run(rt, file, list, asked),
         Command::Follow => follow(rt, file, list, asked),
         Command::Expand => expand(rt, file, list, asked),
@@ -86,13 +74,10 @@ pub fn on_list(rt: HostRuntime, asked: Asked, file: &[u8], next: usize) {
 
 // Why the list is no plan.
 fn explain_list(rt: HostRuntime, asked: Asked, file: &[u8], list: &[u16]) {
-    let command = asked.command;
-    match command {
-        Command::Run => failing::on_task(rt, asked, file, list),
+    match asked.command {
+        Command::Run | Command::Expand | Command::Sheet => failing::on_task(rt, asked, file, list),
         Command::Follow => failing::on_probe(rt, asked, file, list),
-        Command::Expand => failing::on_task(rt, asked, file, list),
         Command::Contract => failing::on_compiled(rt, asked, file, list),
-        Command::Sheet => failing::on_task(rt, asked, file, list),
         _ => {}
     }
 }
@@ -114,11 +99,9 @@ fn contract(rt: HostRuntime, file: &[u8], list: &[u16], asked: Asked) {
 // `cost`, `relaxed`, `estimate`: a question about the state that the next argument names.
 pub fn on_state(rt: HostRuntime, question: Question, file: &[u8], next: usize, asked: Asked) {
     let mut values = [0; STATE];
-    let given = read_state(rt, next, &mut values);
-    if !given.ok {
+    let Some(n) = read_state(rt, next, &mut values) else {
         return failed(rt);
-    }
-    let n = given.length;
+    };
     let state = &values[..n];
     match question {
         Question::Cost(action) => cost(rt, file, action, state, asked),
@@ -131,56 +114,57 @@ pub fn on_state(rt: HostRuntime, question: Question, file: &[u8], next: usize, a
 // The sum of a plan, the nodes that its actions pass, and the steps of its probe list.
 fn run(rt: HostRuntime, file: &[u8], list: &[u16], asked: Asked) {
     match measure::measure(file, list) {
-        Measured::Plan(sum, passed, steps) => ran(rt, sum, passed, steps),
-        Measured::Refused(why) => refuse(rt, asked, Subject::List, why),
+        Ok(measured) => ran(rt, measured.run, measured.steps),
+        Err(why) => refuse(rt, asked, Subject::List, why),
     }
 }
 
 // The sum of a probe list.
 fn follow(rt: HostRuntime, file: &[u8], list: &[u16], asked: Asked) {
     match probe::run(file, list) {
-        Ran::Sum(sum) => {
-            count(rt, b"sum", sum);
-        }
-        Ran::Refused(why) => refuse(rt, asked, Subject::List, why),
+        Ok(sum) => count(rt, b"sum", sum),
+        Err(why) => refuse(rt, asked, Subject::List, why),
     }
 }
 
 // `charge SUM`: what a shop bills for a run, by its sum.
 pub fn charge(rt: HostRuntime, i: usize) {
-    let sum = read_number(rt, i, b"SUM");
-    if !sum.ok {
+    let Some(sum) = read_number(rt, i, b"SUM") else {
         return failed(rt);
-    }
-    count(rt, b"cents", charge::charge(sum.value));
+    };
+    count(rt, b"cents", charge::charge(sum));
 }
 
 // A list that was written into a buffer, and its sum.
-fn carried(rt: HostRuntime, answer: Carried, out: &[u16], subject: Subject, asked: Asked) {
+fn carried(
+    rt: HostRuntime,
+    answer: Result<(usize, u32), Refusal>,
+    out: &[u16],
+    subject: Subject,
+    asked: Asked,
+) {
     match answer {
-        Carried::List(length, sum) => {
-            let n = within16(length, out);
+        Ok((length, sum)) => {
+            let n = length.min(out.len());
             listed(rt, &out[..n], sum);
         }
-        Carried::Refused(why) => refuse(rt, asked, subject, why),
+        Err(why) => refuse(rt, asked, subject, why),
     }
 }
 
 // What an action costs in a state, and the nodes that it passes.
 fn cost(rt: HostRuntime, file: &[u8], action: usize, state: &[u8], asked: Asked) {
     match task::cost(file, action, state) {
-        Tallied::Sum(cost, passed) => costed(rt, cost, passed),
-        Tallied::Refused(why) => refuse(rt, asked, Subject::State, why),
+        Ok(walked) => costed(rt, walked),
+        Err(why) => refuse(rt, asked, Subject::State, why),
     }
 }
 
 // What an action costs in a relaxed state.
 fn relaxed(rt: HostRuntime, file: &[u8], action: usize, sets: &[u8], asked: Asked) {
     match task_relaxed::relaxed_cost(file, action, sets) {
-        Costed::Cost(cost) => {
-            count(rt, b"cost", cost);
-        }
-        Costed::Refused(why) => refuse(rt, asked, Subject::Sets, why),
+        Ok(cost) => count(rt, b"cost", cost),
+        Err(why) => refuse(rt, asked, Subject::Sets, why),
     }
 }
 
@@ -188,18 +172,18 @@ fn relaxed(rt: HostRuntime, file: &[u8], action: usize, sets: &[u8], asked: Aske
 pub fn dearest(rt: HostRuntime, file: &[u8], action: usize, asked: Asked) {
     let mut state = [0; Task::MAX_VARIABLES];
     match task_dearest::dearest(file, action, &mut state) {
-        Dearest::State(variables, cost) => {
-            let n = within(variables, &state);
+        Ok((variables, cost)) => {
+            let n = variables.min(state.len());
             output::dearest(rt, cost, &state[..n]);
         }
-        Dearest::Refused(why) => refuse(rt, asked, Subject::State, why),
+        Err(why) => refuse(rt, asked, Subject::State, why),
     }
 }
 
 // An estimate.
-fn number(rt: HostRuntime, answer: Estimated, asked: Asked) {
+fn number(rt: HostRuntime, answer: Result<Est, Refusal>, asked: Asked) {
     match answer {
-        Estimated::Number(e) => estimated(rt, e),
-        Estimated::Refused(why) => refuse(rt, asked, Subject::State, why),
+        Ok(e) => estimated(rt, e),
+        Err(why) => refuse(rt, asked, Subject::State, why),
     }
 }

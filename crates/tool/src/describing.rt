@@ -4,9 +4,9 @@ ghost use Rattle.std.specs.Prelude.{◌≡◌, length};
 use console::asking::Asked;
 use console::input::{is_given, read_number};
 use console::output::{failed, refuse, reply};
+use facts::Refusal;
 use report::Subject;
-use sheet::{MAX_SHEET, Sheeted};
-use words::Described;
+use sheet::MAX_SHEET;
 
 // The most bytes of a task in words and of its diagrams, of a probe file in words, and of the trace of a list: more than any has.
 const TASK_TEXT: usize = 65536;
@@ -23,12 +23,19 @@ fn zeros<const N: usize>() -> [u8; N]
 }
 
 // A text that was written into a buffer, or the refusal.
-fn described(rt: HostRuntime, answer: Described, text: &[u8], subject: Subject, asked: Asked) {
+fn described(
+    rt: HostRuntime,
+    answer: Result<usize, Refusal>,
+    text: &[u8],
+    subject: Subject,
+    asked: Asked,
+) {
     match answer {
-        Described::Length(n) => {
-            reply(rt, text, n);
+        Ok(n) => {
+            let n = n.min(text.len());
+            reply(rt, &text[..n]);
         }
-        Described::Refused(why) => refuse(rt, asked, subject, why),
+        Err(why) => refuse(rt, asked, subject, why),
     }
 }
 
@@ -58,12 +65,11 @@ pub fn draw(rt: HostRuntime, file: &[u8], next: usize, asked: Asked) {
 
 // The cost diagram of the action whose number is an argument.
 fn draw_action(rt: HostRuntime, file: &[u8], next: usize, asked: Asked) {
-    let action = read_number(rt, next, b"ACTION");
-    if !action.ok {
+    let Some(action) = read_number(rt, next, b"ACTION") else {
         return failed(rt);
-    }
+    };
     let mut text = [0; TASK_TEXT];
-    let answer = draw::draw_action(file, action.value as usize, &mut text);
+    let answer = draw::draw_action(file, action as usize, &mut text);
     described(rt, answer, &text, Subject::State, asked);
 }
 
@@ -77,10 +83,6 @@ pub fn steps(rt: HostRuntime, file: &[u8], list: &[u16], asked: Asked) {
 // `sheet TASK PLAN`: a line for each action of a plan, and one for the sum.
 pub fn sheet(rt: HostRuntime, file: &[u8], list: &[u16], asked: Asked) {
     let mut text = [0; MAX_SHEET];
-    match sheet::sheet(file, list, &mut text) {
-        Sheeted::Length(n, _) => {
-            reply(rt, &text, n);
-        }
-        Sheeted::Refused(why) => refuse(rt, asked, Subject::List, why),
-    }
+    let answer = sheet::sheet(file, list, &mut text).map(|(n, _)| n);
+    described(rt, answer, &text, Subject::List, asked);
 }

@@ -11,19 +11,17 @@ use console::asking::Asked;
 use console::command::{Command, takes_either};
 use console::input::{read_file, read_number};
 use console::output::{failed, hint};
-use facts::Checked;
+use facts::Refusal;
 use probefile::Probe;
 
 // One byte more than the longest file has that is accepted, a probe file.
 const FILE: usize = Probe::MAX_BYTES + 1;
 
 fn main(rt: HostRuntime) {
-    let asked = console::asking::read(rt);
-    if !asked.ok {
+    let Some(asked) = console::asking::read(rt) else {
         return failed(rt);
-    }
-    let command = asked.command;
-    match command {
+    };
+    match asked.command {
         Command::Charge => commands::charge(rt, asked.first as usize),
         _ => with_file(rt, asked),
     }
@@ -32,11 +30,9 @@ fn main(rt: HostRuntime) {
 // A command on a file, which its first argument names.
 fn with_file(rt: HostRuntime, asked: Asked) {
     let mut file = [0; FILE];
-    let given = read_file(rt, asked.first as usize, &mut file);
-    if !given.ok {
+    let Some(n) = read_file(rt, asked.first as usize, &mut file) else {
         return failed(rt);
-    }
-    let n = given.length;
+    };
     on_file(rt, asked, &file[..n]);
 }
 
@@ -59,24 +55,21 @@ fn on_file(rt: HostRuntime, asked: Asked, file: &[u8]) {
 }
 
 // A file that is refused is held against the other kind.
-fn other_kind(rt: HostRuntime, asked: Asked, answer: Checked) {
-    let command = asked.command;
-    match answer {
-        Checked::Accepted => hint(
+fn other_kind(rt: HostRuntime, asked: Asked, answer: Result<(), Refusal>) {
+    if answer.is_ok() {
+        hint(
             rt,
             asked.first as usize,
-            takes_either(command),
+            takes_either(asked.command),
             !asked.probe,
-        ),
-        Checked::Refused(_) => {}
+        );
     }
 }
 
 // A command on an accepted probe file.
 fn on_probe(rt: HostRuntime, asked: Asked, file: &[u8]) {
     let next = asked.first as usize + 1;
-    let command = asked.command;
-    match command {
+    match asked.command {
         Command::Check => commands::accepted(rt),
         Command::Estimate => on_state(rt, Question::ProbeEstimate, file, next, asked),
         Command::Show => describing::show_probe(rt, file, asked),
@@ -87,13 +80,10 @@ fn on_probe(rt: HostRuntime, asked: Asked, file: &[u8]) {
 // A command on an accepted task file.
 fn on_task(rt: HostRuntime, asked: Asked, file: &[u8]) {
     let next = asked.first as usize + 1;
-    let command = asked.command;
-    match command {
+    match asked.command {
         Command::Check => commands::accepted(rt),
         Command::Compile => commands::compile(rt, file, next, asked),
-        Command::Cost => with_action(rt, asked, file),
-        Command::Relaxed => with_action(rt, asked, file),
-        Command::Dearest => with_action(rt, asked, file),
+        Command::Cost | Command::Relaxed | Command::Dearest => with_action(rt, asked, file),
         Command::Estimate => on_state(rt, Question::TaskEstimate, file, next, asked),
         Command::Show => describing::show(rt, file, asked),
         Command::Draw => describing::draw(rt, file, next, asked),
@@ -103,14 +93,12 @@ fn on_task(rt: HostRuntime, asked: Asked, file: &[u8]) {
 
 // A command on an action, whose number is the second argument.
 fn with_action(rt: HostRuntime, asked: Asked, file: &[u8]) {
-    let given = read_number(rt, asked.first as usize + 1, b"ACTION");
-    if !given.ok {
+    let Some(number) = read_number(rt, asked.first as usize + 1, b"ACTION") else {
         return failed(rt);
-    }
-    let action = given.value as usize;
+    };
+    let action = number as usize;
     let next = asked.first as usize + 2;
-    let command = asked.command;
-    match command {
+    match asked.command {
         Command::Relaxed => on_state(rt, Question::Relaxed(action), file, next, asked),
         Command::Dearest => commands::dearest(rt, file, action, asked),
         _ => on_state(rt, Question::Cost(action), file, next, asked),

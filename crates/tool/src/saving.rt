@@ -6,7 +6,7 @@ use console::output::{done, fail, failed, reply};
 use std::fs::{File, OpenOptions};
 use std::io::{Error, ErrorKind, Write};
 use std::{fs, io, process};
-use text::append::{append, append_number, within};
+use text::append::Writer;
 
 // The names that are tried for a new file end in a number of six digits, from LEAST on.
 const LEAST: u32 = 100000;
@@ -19,7 +19,7 @@ const EEXIST: i32 = 17;
 // Bytes into the file that argument i names; to standard output for `-`, and where there is no such argument.
 pub fn save(rt: HostRuntime, i: usize, bytes: &[u8]) {
     if is_input(rt, i) {
-        return reply(rt, bytes, bytes.len());
+        return reply(rt, bytes);
     }
     let mut space = [0; PATH_MAX];
     let length = argument(rt, i, &mut space);
@@ -37,15 +37,15 @@ pub fn save(rt: HostRuntime, i: usize, bytes: &[u8]) {
 fn replace(rt: HostRuntime, name: &[u8], bytes: &[u8]) -> io::Result<()> {
     let path = path_of(name)?;
     test_writable(rt, path)?;
-    let mut space = [0; PATH_MAX];
-    let first = append(&mut space, 0, &name[..folder(name)]);
-    let second = append(&mut space, first, b".jafrelin.");
     let own = process::id(rt.process()) % NAMES;
     for i in 0..NAMES {
         let number = LEAST + (own + i) % NAMES;
-        let third = append_number(&mut space, second, number as u64);
-        let n = within(third, &space);
-        let new = path_of(&space[..n])?;
+        let mut space = [0; PATH_MAX];
+        let mut beside = Writer::new(&mut space);
+        beside.append(&name[..folder(name)]);
+        beside.append(b".jafrelin.");
+        beside.append_number(number as u64);
+        let new = path_of(beside.written())?;
         match create(rt, new) {
             Ok(file) => return finish(rt, file, new, path, bytes),
             Err(why) if why.kind() == ErrorKind::AlreadyExists => {}
@@ -68,14 +68,10 @@ fn test_writable(rt: HostRuntime, path: &str) -> io::Result<()> {
 fn folder(name: &[u8]) -> usize
     ensures { Counts result name.now }
 {
-    let mut i = name.len();
-    while i > 0 {
-        if name[i - 1] == b'/' {
-            break;
-        }
-        i -= 1;
+    match name.iter().rposition(|byte| *byte == b'/') {
+        Some(last) => last + 1,
+        None => 0,
     }
-    i
 }
 
 // Makes a file of a name that nobody has, with the mode that any new file gets.
