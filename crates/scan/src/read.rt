@@ -69,8 +69,9 @@ pub fn numbers<T: Entry>(text: &[u8], most: T, out: &mut [T]) -> Result<usize, F
 {
     let bound = most.number();
     let count = scan(text, bound)?;
+    let room = count.min(out.len());
     let mut at: usize = 0;
-    for i in 0..out.len() {
+    for i in 0..room {
         let Some((number, end)) = next_number(text, at, bound)? else {
             break;
         };

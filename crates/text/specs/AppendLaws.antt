@@ -59,7 +59,7 @@ unfolding next
 put_full [] at out l m = refl
 put_full (b ∷ bs) at out l m = ap (put bs (next at)) (sym (set_full out at b l)) ∙ put_full bs (next at) out (omega arith) m
 
-next_on : (at : ℕ) → at < largest → next at ≡ at + 1
+pub next_on : (at : ℕ) → at < largest → at + 1 ≡ next at
 unfolding next
 next_on at l = omega arith
 
@@ -69,7 +69,7 @@ put_part [] done rest l = rw (take-nil (length rest))
 put_part (b ∷ bs) done [] l = let long : length (done ++ []) ≡ length done + 0 = length-append done [] in put_full (b ∷ bs) (length done) (done ++ []) (omega arith) (omega arith)
 put_part (b ∷ bs) done (r ∷ rest) l =
     let long : length (done ++ (b ∷ [])) ≡ length done + 1 = length-append done (b ∷ []) in
-    ap (λ (k : ℕ). put bs k (set (done ++ (r ∷ rest)) (length done) b)) (next_on (length done) (omega arith) ∙ sym long)
+    ap (λ (k : ℕ). put bs k (set (done ++ (r ∷ rest)) (length done) b)) (sym (next_on (length done) (omega arith)) ∙ sym long)
     ∙ ap (put bs (length (done ++ (b ∷ [])))) (set_at done r rest b (length done) refl ∙ sym (append_assoc done (b ∷ []) rest))
     ∙ put_part bs (done ++ (b ∷ [])) rest (omega (arith, long))
     ∙ append_assoc done (b ∷ []) (take (length rest) bs ++ drop (length bs) rest)

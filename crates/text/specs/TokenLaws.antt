@@ -130,6 +130,11 @@ parsed_entries (parsed xs) h = refl
 parsed_entries (stray p) h = let z : ◌≡◌ {A = ℕ} 0 1 = cc in absurd (omega arith)
 parsed_entries (large p) h = let z : ◌≡◌ {A = ℕ} 0 1 = cc in absurd (omega arith)
 
+counted_entries : (r : Parsed (List ℕ)) {n : ℕ} → with_parsed length r ≡ parsed n → length (entries r) ≡ n
+counted_entries (parsed xs) h = cc
+counted_entries (stray p) h = let z : ◌≡◌ {A = ℕ} 0 1 = cc in absurd (omega arith)
+counted_entries (large p) h = let z : ◌≡◌ {A = ℕ} 0 1 = cc in absurd (omega arith)
+
 pub filling_start : (most : ℕ) (text out : List ℕ) {n : ℕ} → parsed n ≡ count_of most text → Filling most text out out 0 0
 unfolding numbers_of count_of over
 filling_start most text out is = record {
@@ -161,6 +166,12 @@ module _ {most : ℕ} {text before now : List ℕ} {at i : ℕ} (g : Filling mos
       g.front
       ∙ ap (λ (ys : List ℕ). over ys before) (take_all i (entries (numbers_of most text)) (omega arith) ∙ sym (take_all (length before) (entries (numbers_of most text)) (omega (arith, g.long))))
       ∙ buffer_entries (numbers_of most text) before
+
+  pub filling_end : {n : ℕ} → parsed n ≡ count_of most text → i ≡ min n (length now) → now ≡ buffer_of (numbers_of most text) before
+  unfolding count_of
+  filling_end is e =
+      let all = counted_entries (numbers_of most text) (sym is) in
+      g.front ∙ ap (λ (ys : List ℕ). over ys before) (take_room (entries (numbers_of most text)) i (length before) (omega (arith, e, all, g.long))) ∙ buffer_entries (numbers_of most text) before
 
   pub filling_full : i ≡ length now → now ≡ buffer_of (numbers_of most text) before
   filling_full l = g.front ∙ ap (λ (k : ℕ). over (take k (entries (numbers_of most text))) before) (l ∙ g.long) ∙ buffer_entries (numbers_of most text) before

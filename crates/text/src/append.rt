@@ -2,7 +2,7 @@
 ghost use Rattle.std.specs.Prelude.{◌≡◌, min, [], ◌∷◌, length, take};
 ghost use Rattle.text.specs.Text.{decimal, list_text};
 ghost use Rattle.text.specs.Append.{Counts};
-ghost use Rattle.text.specs.Writer.{Starts, Appends};
+ghost use Rattle.text.specs.Writer.{Starts, StartsAt, Appends};
 
 // A buffer, and how many bytes of a text have been written to it or counted. No `fmt::Write`: what `write!` says of a text is only of an `Ok`, and nothing says that one comes.
 #[derive(Drop)]
@@ -19,6 +19,13 @@ impl<'a> Writer<'a> {
         Writer { out, at: 0 }
     }
 
+    // At an index of a buffer, in it or past its end.
+    pub fn from_index(out: &'a mut [u8], at: usize) -> Writer<'a>
+        ensures { StartsAt at out.entry result }
+    {
+        Writer { out, at }
+    }
+
     // How long the text is.
     pub fn length(&self) -> usize
         ensures { result ≡ self.now.at }
@@ -30,7 +37,7 @@ impl<'a> Writer<'a> {
     pub fn written(&self) -> &[u8]
         ensures { result.now ≡ take self.now.at self.now.out.now }
     {
-        let end = self.at.min(self.out.len());
+        let end = within(self.at, self.out);
         &self.out[..end]
     }
 

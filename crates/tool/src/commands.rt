@@ -12,6 +12,7 @@ use facts::Refusal;
 use probefile::Probe;
 use report::Subject;
 use taskfile::Task;
+use text::append::within;
 
 // One entry more than the longest list, one of steps, and than a state may have.
 const LIST: usize = Probe::MAX_LIST + 1;
@@ -45,7 +46,7 @@ pub fn compile(rt: HostRuntime, file: &[u8], next: usize, asked: Asked) {
     let mut out = [0; Task::MAX_WRITTEN];
     match compile::compile(file, &mut out) {
         Ok(length) => {
-            let n = length.min(out.len());
+            let n = within(length, &out);
             save(rt, next, &out[..n]);
         }
         Err(why) => refuse(rt, asked, Subject::File, why),
@@ -173,7 +174,7 @@ pub fn dearest(rt: HostRuntime, file: &[u8], action: usize, asked: Asked) {
     let mut state = [0; Task::MAX_VARIABLES];
     match task_dearest::dearest(file, action, &mut state) {
         Ok((variables, cost)) => {
-            let n = variables.min(state.len());
+            let n = within(variables, &state);
             output::dearest(rt, cost, &state[..n]);
         }
         Err(why) => refuse(rt, asked, Subject::State, why),

@@ -7,6 +7,7 @@ use console::output::{failed, refuse, reply};
 use facts::Refusal;
 use report::Subject;
 use sheet::MAX_SHEET;
+use text::append::within;
 
 // The most bytes of a task in words and of its diagrams, of a probe file in words, and of the trace of a list: more than any has.
 const TASK_TEXT: usize = 65536;
@@ -32,7 +33,7 @@ fn described(
 ) {
     match answer {
         Ok(n) => {
-            let n = n.min(text.len());
+            let n = within(n, text);
             reply(rt, &text[..n]);
         }
         Err(why) => refuse(rt, asked, subject, why),

@@ -3,13 +3,14 @@ use console::asking::Asked;
 use console::output::add;
 use facts::Refusal;
 use taskfile::Task;
+use text::append::within;
 
 // More bytes than any such text has.
 const FAILURE_TEXT: usize = 4096;
 
 // A text that was written into a buffer, if it was.
 fn told(rt: HostRuntime, asked: Asked, answer: Result<usize, Refusal>, text: &[u8]) {
-    let n = answer.unwrap_or(0).min(text.len());
+    let n = within(answer.unwrap_or(0), text);
     add(rt, asked, &text[..n]);
 }
 
@@ -31,7 +32,7 @@ pub fn on_probe(rt: HostRuntime, asked: Asked, file: &[u8], list: &[u16]) {
 pub fn on_compiled(rt: HostRuntime, asked: Asked, file: &[u8], list: &[u16]) {
     let mut out = [0; Task::MAX_WRITTEN];
     if let Ok(length) = compile::compile(file, &mut out) {
-        let n = length.min(out.len());
+        let n = within(length, &out);
         on_probe(rt, asked, &out[..n], list);
     }
 }

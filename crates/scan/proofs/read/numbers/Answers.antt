@@ -6,7 +6,7 @@ use mathlib.Core.Path.{sym, ap, subst, ◌∙◌}
 use Rattle.std.specs.Prelude.{Option, Ok, set}
 use Rattle.text.specs.Text.{numbers_of, buffer_of}
 use Rattle.text.specs.Answers.{token_answer}
-use Rattle.text.specs.TokenLaws.{wrong_of, buffer_wrong, Filling, filling_start, filling_next, filling_none, filling_full}
+use Rattle.text.specs.TokenLaws.{wrong_of, buffer_wrong, Filling, filling_start, filling_next, filling_none, filling_end}
 use Rattle.scan.proofs.read.numbers.Goals as goal
 
 pub returns-in_err-count-clause-out_after : goal.returns-in_err-count-clause-out_after
@@ -29,7 +29,7 @@ pub returns-after-loop-i-clause-out_after : goal.returns-after-loop-i-clause-out
 returns-after-loop-i-clause-out_after g c =
     let out = g.T.Entry.numbers c.args.out.now in
     let long = g.met.T.Entry.long c.loop-i.out in
-    filling_full c.loop-i.invariant (omega arith) ∙ ap (λ (m : ℕ). buffer_of (numbers_of m c.args.text.now) out) c.number-bound.ensures
+    filling_end c.loop-i.invariant c.in_ok-count.ensures (omega arith) ∙ ap (λ (m : ℕ). buffer_of (numbers_of m c.args.text.now) out) c.number-bound.ensures
 
 pub returns-in_default-clause-out_after : goal.returns-in_default-clause-out_after
 returns-in_default-clause-out_after g c =
