@@ -30,9 +30,20 @@ pub fn sum(a: Est, b: Est) -> Est
     }
 }
 
-// Sets the numbers with which the estimate from a state starts, at variable times 66 plus value: 0 for the facts of the state, where the array has never for every
+// The numbers with which the estimate from a state starts, at variable times 66 plus value: 0 for the facts of the state, else never. Each number that is set lowers
+// the rank at its index, so that ranks that are never's have the same numbers.
+pub fn start(state: &[u8], ranks: &mut [u64]) -> [Est; Probe::FACTS]
+    ensures has_numbers { HasNumbers result (start_number state.now) }
+    ensures has_ranks { HasRanks ranks.new (started_over (rank_number ranks.old) state.now) }
+{
+    let mut numbers = [Est::Never; Probe::FACTS];
+    start_in(state, &mut numbers, ranks);
+    numbers
+}
+
+// Sets these numbers in an array that is lent and not copied, as the stack has to hold it: 0 for the facts of the state, where the array has never for every
 // fact. Past 57 variables and past 66 values nothing is set. Each number that is set lowers the rank at its index, so that ranks that are never's have the same numbers.
-pub fn start(state: &[u8], numbers: &mut [Est; Probe::FACTS], ranks: &mut [u64])
+pub fn start_in(state: &[u8], numbers: &mut [Est; Probe::FACTS], ranks: &mut [u64])
     ensures has_numbers { HasNumbers numbers.old (λ v d. never) → HasNumbers numbers.new (start_number state.now) }
     ensures has_ranks { HasRanks ranks.new (started_over (rank_number ranks.old) state.now) }
 {

@@ -44,23 +44,14 @@ impl Numbers {
         ensures numbered { Numbered (actions_in file.now sizes.now row.now 0 actions) row.now self.new.first_step self.new.first_edge }
         ensures long { actions ≤ length self.new.first_step }
     {
-        let mut next = 0;
-        for a in 0..actions {
-            self.first_step[a] = next;
-            let own = own_nodes(row, a);
-            let count = node_count(file, row[a]);
-            let first = offset_within(row, Task::FIRSTS + a, Task::MAX_NODES);
-            next = 1
-                + number_edges(
-                    file,
-                    sizes,
-                    &row[own..],
-                    count,
-                    1 + next,
-                    &mut self.first_edge[first..],
-                );
-        }
-        self.first_step[actions] = next;
+        number_steps(
+            file,
+            sizes,
+            actions,
+            row,
+            &mut self.first_step,
+            &mut self.first_edge,
+        );
     }
 
     // Those of action a, by the row of the index.
@@ -85,10 +76,49 @@ impl Numbers {
         requires below { (a : ℕ) → a < actions → get_or self.now.first_step a 0 < max_steps }
         ensures { action_of.new ≡ note_from 0 (take actions self.now.first_step) action_of.old }
     {
-        let starts = &self.first_step[..actions];
-        for (a, step) in starts.iter().enumerate() {
-            action_of[*step] = (1 + a) as u8;
-        }
+        note_actions(&self.first_step[..actions], action_of);
+    }
+}
+
+// Numbers the steps of `actions` actions, by the row of the index: notes the number of each action's start, past the last the number of all steps, and for each of all nodes the number of its first edge.
+pub fn number_steps(
+    file: &[u8],
+    sizes: &[u8],
+    actions: usize,
+    row: &[usize],
+    first_step: &mut [usize],
+    first_edge: &mut [usize],
+)
+    requires actions_in_bounds { actions < length first_step.old }
+    requires rows { Rows (actions_in file.now sizes.now row.now 0 actions) row.now (length first_edge.old) × AllTested file.now actions row.now }
+    ensures { Numbered (actions_in file.now sizes.now row.now 0 actions) row.now first_step.new first_edge.new }
+{
+    let mut next = 0;
+    for a in 0..actions {
+        first_step[a] = next;
+        let own = own_nodes(row, a);
+        let count = node_count(file, row[a]);
+        let first = offset_within(row, Task::FIRSTS + a, first_edge.len());
+        next = 1
+            + number_edges(
+                file,
+                sizes,
+                &row[own..],
+                count,
+                1 + next,
+                &mut first_edge[first..],
+            );
+    }
+    first_step[actions] = next;
+}
+
+// Notes 1 and the number of each action at the number of its start.
+pub fn note_actions(first_step: &[usize], action_of: &mut [u8])
+    requires { (length action_of.old ≡ max_steps) × (length first_step.now ≤ max_actions) × ((a : ℕ) → a < length first_step.now → get_or first_step.now a 0 < max_steps) }
+    ensures { action_of.new ≡ note_from 0 first_step.now action_of.old }
+{
+    for (a, step) in first_step.iter().enumerate() {
+        action_of[*step] = (1 + a) as u8;
     }
 }
 

@@ -66,7 +66,7 @@ fn settle_in<A: Achievers>(
     ensures { number result ≡ additive sizes.now (A.achievers all.now) (partial_at file.now goal) state.now }
 {
     let mut numbers = [Est::Never; Probe::FACTS];
-    estimate::start(state, &mut numbers, ranks);
+    estimate::start_in(state, &mut numbers, ranks);
     while all.offer(ranks) {}
     estimate::put_back(&mut numbers, sizes, ranks);
     goal_sum(file, goal, sizes.len(), &numbers)

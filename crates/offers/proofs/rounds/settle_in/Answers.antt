@@ -12,8 +12,8 @@ pub loop-init : goal.loop-init
 loop-init g c =
     let posed = c.requires.posed in
     record {
-      count = c.start.auto.ranks;
-      nearing = nearing_start _ _ _ posed.achievers_wf posed.supported (roomy_same c.requires.room c.start.auto.ranks) (started_fresh c.requires.fresh c.args.state.now c.start.ensures.has_ranks);
+      count = c.start_in.auto.ranks;
+      nearing = nearing_start _ _ _ posed.achievers_wf posed.supported (roomy_same c.requires.room c.start_in.auto.ranks) (started_fresh c.requires.fresh c.args.state.now c.start_in.ensures.has_ranks);
     }
 
 pub loop-smaller : goal.loop-smaller

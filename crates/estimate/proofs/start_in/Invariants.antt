@@ -3,7 +3,7 @@ use lib.ListN.{length, take}
 use Rattle.estimate.specs.Number.{never}
 use Rattle.estimate.specs.Facts.{most_facts, HasNumbers, start_number}
 use Rattle.estimate.specs.Ranks.{rank_number, HasRanks, started_over}
-use Rattle.estimate.proofs.start.Given as goal
+use Rattle.estimate.proofs.start_in.Given as goal
 
 abbrev pub invariant-loop-v : goal.invariant-loop-v
 invariant-loop-v l = record {
