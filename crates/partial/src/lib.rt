@@ -69,13 +69,13 @@ pub fn stray(map: u64, n: usize) -> bool
 
 // The lowest standing bit of a map: how many bits lie below it, and the bits above it.
 #[derive(Clone, Copy, Debug, PartialEq, Eq)]
-struct Bit {
-    zeros: usize,
-    above: u64,
+pub struct Bit {
+    pub zeros: usize,
+    pub above: u64,
 }
 
 // The lowest standing bit; below it there are 64 where none stands.
-fn lowest_bit(map: u64) -> Bit
+pub fn lowest_bit(map: u64) -> Bit
     ensures { LowestBit map result.zeros result.above }
 {
     if map == 0 {

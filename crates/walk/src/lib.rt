@@ -15,7 +15,8 @@ ghost use Rattle.taskfile.specs.WalkInPlace.{count_past, incoming_place, node_co
 
 use facts::number::{byte_at, offset_at, offset_within, word_at};
 use partial::length_at;
-use taskfile::{Task, Walked};
+use taskfile::Task;
+pub use taskfile::Walked;
 
 // An edge: the number of the node that it leads to, and what it costs.
 #[derive(Clone, Copy, Debug, PartialEq, Eq)]

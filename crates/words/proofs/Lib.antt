@@ -1,4 +1,4 @@
 -- How long texts about tasks are.
 pub mod LengthLaws
 -- A text that is counted, and then written.
-mod PutsLaws
+pub mod PutsLaws

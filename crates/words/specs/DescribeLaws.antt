@@ -6,6 +6,7 @@ use native.Mathlib.Omega.{arith}
 use Rattle.facts.specs.Read.{Read, accepted, refused}
 use Rattle.facts.specs.ReadLaws.{not_made}
 use Rattle.facts.specs.Write.{length_in, written_in}
+use Rattle.facts.specs.WriteLaws.{short_in, wrote_in}
 use Rattle.facts.specs.ListLaws.{look, look_none}
 use Rattle.facts.specs.Partial.{partial_at}
 use Rattle.taskfile.specs.Task.{Action, Task}
@@ -17,7 +18,8 @@ use Rattle.taskfile.proofs.AnswerLaws.{starts, sizes_there}
 use Rattle.taskfile.specs.PartsInPlace.{actions_in}
 use Rattle.taskfile.specs.PartsInPlaceLaws.{at_some, action_here, actions_in_place}
 use Rattle.compilation.specs.Compile.{flat}
-use Rattle.text.specs.Append.{bytes}
+use Rattle.text.specs.Append.{bytes, largest, Adds}
+use Rattle.text.specs.AppendLaws.{adds_end, adds_wrote}
 use Rattle.words.specs.Words.{partial_text}
 use Rattle.words.specs.Show.{variable_text, action_text, task_text}
 use Rattle.words.specs.Dot.{dot_action}
@@ -48,6 +50,14 @@ heading_then f n rest =
 pub answered_as : {whole result : Read (List ℕ)} {answer : Read ℕ} {now : List ℕ} (out : List ℕ) → whole ≡ result → (answer ≡ length_in (length out) result) × (now ≡ written_in out result)
     → (answer ≡ length_in (length out) whole) × (now ≡ written_in out whole)
 answered_as out e h = (h.0 ∙ ap (length_in (length out)) (sym e), h.1 ∙ ap (written_in out) (sym e))
+
+-- A text is counted in a buffer of any length, and then written if there is room.
+module _ {result : Read (List ℕ)} {text none after : List ℕ} {needed : ℕ} (h : result ≡ accepted text) (few : length text ≤ largest) (count : Adds text none after 0 needed) where
+  pub counted_short : (out : List ℕ) → length out < needed → (refused 7 needed ≡ length_in (length out) result) × (out ≡ written_in out result)
+  counted_short out l = short_in h out (adds_end few count) l
+
+  pub counted_wrote : {out now : List ℕ} {end : ℕ} → needed ≤ length out → Adds text out now 0 end → (accepted end ≡ length_in (length out) result) × (now ≡ written_in out result)
+  counted_wrote {out} l v = let room : length text ≤ length out = omega (arith, adds_end few count) in wrote_in h room (adds_wrote few room v)
 
 module _ (f : List ℕ) where
   -- The file's refusal, for each operation.

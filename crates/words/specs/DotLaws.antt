@@ -1,6 +1,6 @@
 -- Laws of cost diagrams for Graphviz, from the bytes of a file.
-use Rattle.std.specs.Prelude.{ℕ, zero, suc, ◌+◌, ◌*◌, ◌-◌, ◌≤◌, ◌<◌, ◌≡◌, refl, Bool, true, false, ◌||◌, List, [], ◌∷◌, ◌++◌, length, get_or, take, drop}
-use Rattle.std.proofs.Common.{sym, ap, ap₂, ◌∙◌, arith}
+use Rattle.std.specs.Prelude.{ℕ, zero, suc, ◌+◌, ◌*◌, ◌-◌, ◌≤◌, ◌<◌, ◌≡◌, refl, Bool, true, false, ◌||◌, List, [], ◌∷◌, ◌++◌, eqb, length, get_or, take, drop}
+use Rattle.std.proofs.Common.{sym, ap, ap₂, ◌∙◌, arith, eq-eqb, ne_eqb}
 use Rattle.std.specs.List.{list_any, range_with_len}
 use Rattle.taskfile.specs.Task.{Edge, Action}
 use Rattle.taskfile.specs.TaskFile.{edge_bytes}
@@ -17,6 +17,14 @@ use Rattle.words.specs.Rows.{row_from, edge_for, node_for}
 use Rattle.words.specs.RowLaws.{labelled_as, edges_row, edges_text, nodes_row}
 
 -- ---- edges
+
+-- Two edges by their parts, one test after the other.
+module _ (e g : Edge) {target other : ℕ} (t : target ≡ e.target) (o : other ≡ g.target) where
+  pub apart : (target ≡ other → ⊥) → false ≡ alike e g
+  apart h = sym (rw (ne_eqb e.target g.target (λ q. h (t ∙ q ∙ sym o)), alike))
+
+  pub agree : {weight same : ℕ} → weight ≡ e.weight → same ≡ g.weight → target ≡ other → eqb weight same ≡ alike e g
+  agree w s q = ap₂ eqb w s ∙ sym (rw (eq-eqb e.target g.target (sym t ∙ q ∙ o), alike))
 
 -- An edge where one like it came before, and the first of its kind.
 module _ (a i : ℕ) (edges : List Edge) (d : ℕ) (e : Edge) where

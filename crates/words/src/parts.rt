@@ -43,7 +43,7 @@ fn put_variable(out: &mut Writer, v: usize, size: u8, value: u8)
 }
 
 // All variables, with these sizes and initial values.
-fn put_variables(out: &mut Writer, sizes: &[u8], init: &[u8])
+pub fn put_variables(out: &mut Writer, sizes: &[u8], init: &[u8])
     ensures { Appends (row_from (λ v. variable_text v (get_or sizes.now v 0) (get_or init.now v 0)) 0 (length sizes.now)) out.old out.new }
 {
     for (v, size) in sizes.iter().enumerate() {
