@@ -24,10 +24,14 @@ pub fn index(file: &[u8], offsets: &mut [usize]) -> Result<(usize, usize), Refus
 pub fn count_steps(file: &[u8]) -> Result<(usize, usize, usize), Refusal>
     ensures { CountedIn file.now result }
 {
-    let head = head::read_head(file, Probe::MAX_VARIABLES as u64, Probe::MAX_VALUES as u64);
-    let (variables, at) = head?;
-    let steps = step_count(file, at)? as usize;
-    Ok((variables, at, steps))
+    match head::read_head(file, Probe::MAX_VARIABLES as u64, Probe::MAX_VALUES as u64) {
+        // written out for its edit: `?` with another answer in place of the refusal is refused by its form alone (docs/DESIGN-PASS.md)
+        Err(why) => Err(why),
+        Ok((variables, at)) => {
+            let steps = step_count(file, at)? as usize;
+            Ok((variables, at, steps))
+        }
+    }
 }
 
 // The same as the index of the file, past the head, which ends at `at`, and the step count.

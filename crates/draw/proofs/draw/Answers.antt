@@ -1,7 +1,6 @@
 -- `draw::draw` meets its contract: the index, and then the diagrams.
 use mathlib.Core.Path.{refl, sym, ap, ◌∙◌}
-use Rattle.std.proofs.Common.{ℕ, ◌≡◌, ◌≤◌, rules}
-use Rattle.std.proofs.iter.Serving.{serving}
+use Rattle.std.proofs.Common.{ℕ, ◌≡◌, ◌≤◌}
 use mathlib.Core.List.{List}
 use lib.ListN.{length}
 use Rattle.facts.specs.AnswerLaws.{handed}
@@ -41,15 +40,14 @@ module _ (c : goal.After-bytes_of-bytes) where
   few : length text ≤ largest
   few = omega (arith, drawn_most c.args.file.now (bytes_each c.args.file.now (λ i. (c.type_inv.file i).fits)) is)
 
-pub write-requires : goal.write-requires
-write-requires c = let fits = head_fits _ (ready (goal.at.write-requires c).After-bytes_of-bytes) in grind serving
+pub draw_in-requires-clause-variables_in_bounds : goal.draw_in-requires-clause-variables_in_bounds
+draw_in-requires-clause-variables_in_bounds c = omega (arith, head_fits _ (ready (goal.at.draw_in-requires-clause-variables_in_bounds c).After-bytes_of-bytes))
+
+pub draw_in-requires-clause-end_len_bound : goal.draw_in-requires-clause-end_len_bound
+draw_in-requires-clause-end_len_bound c = few (goal.at.draw_in-requires-clause-end_len_bound c).After-bytes_of-bytes
 
 pub returns-clause-result_value : goal.returns-clause-result_value
-returns-clause-result_value c =
-    let known = (goal.at.returns-clause-result_value c).After-bytes_of-bytes in
-    c.write.ensures.answered _ (record { few = few known; each = λ before after p. search rules }) ∙ ap (length_in _) (sym (is known))
+returns-clause-result_value c = c.draw_in.ensures.result_value ∙ ap (length_in _) (sym (is (goal.at.returns-clause-result_value c).After-bytes_of-bytes))
 
 pub returns-clause-out_after : goal.returns-clause-out_after
-returns-clause-out_after c =
-    let known = (goal.at.returns-clause-out_after c).After-bytes_of-bytes in
-    c.write.ensures.written _ (record { few = few known; each = λ before after p. search rules }) ∙ ap (written_in _) (sym (is known))
+returns-clause-out_after c = c.draw_in.ensures.out_after ∙ ap (written_in _) (sym (is (goal.at.returns-clause-out_after c).After-bytes_of-bytes))

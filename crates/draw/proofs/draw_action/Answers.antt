@@ -1,7 +1,6 @@
 -- `draw::draw_action` meets its contract: the index, the number, and then the diagram.
 use mathlib.Core.Path.{refl, sym, ap, ◌∙◌}
-use Rattle.std.proofs.Common.{ℕ, ◌≡◌, ◌≤◌, rules, ◌+◌, ◌<◌}
-use Rattle.std.proofs.iter.Serving.{serving}
+use Rattle.std.proofs.Common.{ℕ, ◌≡◌, ◌≤◌, ◌+◌, ◌<◌}
 use mathlib.Core.List.{List}
 use lib.ListN.{length}
 use Rattle.facts.specs.AnswerLaws.{handed}
@@ -56,22 +55,18 @@ returns-then-actions-action-clause-result_value c = (refused_in c.args.out.now (
 pub returns-then-actions-action-clause-out_after : goal.returns-then-actions-action-clause-out_after
 returns-then-actions-action-clause-out_after c = (refused_in c.args.out.now (missing (goal.at.returns-then-actions-action-clause-out_after c).In_ok-variables refl c.if-actions-action.true)).1
 
-pub write-requires : goal.write-requires
-write-requires c =
-    let next = c.if-actions-action.false in
-    let fits = head_fits _ (ready (goal.at.write-requires c).In_ok-variables c.bytes_of-bytes.ensures) in
-    grind serving
+pub draw_in-requires-clause-variables_in_bounds : goal.draw_in-requires-clause-variables_in_bounds
+draw_in-requires-clause-variables_in_bounds c = omega (arith, head_fits _ (ready (goal.at.draw_in-requires-clause-variables_in_bounds c).In_ok-variables c.bytes_of-bytes.ensures))
+
+pub draw_in-requires-clause-end_len_bound : goal.draw_in-requires-clause-end_len_bound
+draw_in-requires-clause-end_len_bound c = few (goal.at.draw_in-requires-clause-end_len_bound c).In_ok-variables c.bytes_of-bytes.ensures c.if-actions-action.false
 
 pub returns-clause-result_value : goal.returns-clause-result_value
 returns-clause-result_value c =
     let at = (goal.at.returns-clause-result_value c).In_ok-variables in
-    let e = c.bytes_of-bytes.ensures in
-    let l = c.if-actions-action.false in
-    c.write.ensures.answered _ (record { few = few at e l; each = λ before after p. search rules }) ∙ ap (length_in _) (sym (is at e l))
+    c.draw_in.ensures.result_value ∙ ap (length_in _) (sym (is at c.bytes_of-bytes.ensures c.if-actions-action.false))
 
 pub returns-clause-out_after : goal.returns-clause-out_after
 returns-clause-out_after c =
     let at = (goal.at.returns-clause-out_after c).In_ok-variables in
-    let e = c.bytes_of-bytes.ensures in
-    let l = c.if-actions-action.false in
-    c.write.ensures.written _ (record { few = few at e l; each = λ before after p. search rules }) ∙ ap (written_in _) (sym (is at e l))
+    c.draw_in.ensures.out_after ∙ ap (written_in _) (sym (is at c.bytes_of-bytes.ensures c.if-actions-action.false))
