@@ -21,6 +21,9 @@ const WEIGHT_BYTES: usize = 2;
 // The variable that stands for the terminal, above all others.
 const TERMINAL: u8 = 255;
 
+// As many levels as a byte has values, so that a target needs no test before its level is read.
+const LEVELS: usize = 256;
+
 // Past a diagram, which may have as many nodes as are not used yet; its nodes' offsets and variables are noted in the row of the index, after those that are used.
 pub fn diagram_end(
     file: &[u8],
@@ -35,7 +38,7 @@ pub fn diagram_end(
 {
     let m = head::read_count(file, at, 0, (Task::MAX_NODES - used) as u64)? as usize;
     let first = Task::NODES + used;
-    let mut levels = [TERMINAL; Task::NUMBERS];
+    let mut levels = [TERMINAL; LEVELS];
     let end = nodes_end(file, at + 1, sizes, m, &mut row[first..], &mut levels)?;
     nodes_rise(file, sizes, m, &row[first..], &levels)?;
     Ok((end, m))
@@ -151,7 +154,8 @@ fn ahead(target: usize, m: usize, i: usize) -> bool
     target - 1 <= m
 }
 
-// Whether the variable rises along each edge of the m nodes at these offsets, by the row of their variables.
+// Whether the variable rises along each edge of the m nodes at these offsets, by the row of their variables. It has a place of its own, as its loop is quick or slow by where it lies in the pass over the file (docs/PERFORMANCE.md).
+#[inline(never)]
 fn nodes_rise(
     file: &[u8],
     sizes: &[u8],

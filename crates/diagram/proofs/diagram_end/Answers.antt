@@ -17,7 +17,7 @@ overflow_add-at c = omega (arith, count_fits _ c.args.sizes.now _ _ (sym c.in_ok
 pub nodes_end-requires : goal.nodes_end-requires
 nodes_end-requires c =
     let most = count_most _ c.args.sizes.now _ _ (sym c.in_ok-m.ensures) in
-    (omega (arith, most), omega (arith, c.requires.0, c.requires.1, most, mid_len (nodes_from + c.args.used) (length c.args.row.now) c.args.row.now (omega arith)), omega (arith, most), all_terminal 66)
+    (omega (arith, most), omega (arith, c.requires.0, c.requires.1, most, mid_len (nodes_from + c.args.used) (length c.args.row.now) c.args.row.now (omega arith)), omega (arith, most), all_terminal 256)
 
 pub nodes_rise-requires : goal.nodes_rise-requires
 nodes_rise-requires c =
